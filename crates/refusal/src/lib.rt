@@ -1,0 +1,54 @@
+// The refusals: document 01's table "Numbers a call may answer", in its order.
+ghost use mathlib.Core.Path.{_≡_};
+ghost use Rattle.refusal.specs.Number.{numberOf};
+
+// Each is named by what is wrong.
+pub enum Refusal {
+    // The state handed in is unsound.
+    StateUnsound,
+    // Packet length outside 14 to 1,514, or image not 128 bytes.
+    LengthOutside,
+    // Sixteen packets sent and unreported.
+    SixteenUnreported,
+    // TX Free below 4 plus the length rounded up to 4.
+    NoRoom,
+    // Send or service reads a Status word with Adapter Failure or a window other than 1.
+    CardUnfit,
+    // Budget short.
+    BudgetShort,
+    // Lookahead area under 256 bytes or frame area under 1,514.
+    AreaShort,
+    // EEPROM word 07h is not 6D50h.
+    MakerWrong,
+    // Word 0Fh is not the checksum.
+    ChecksumWrong,
+    // Word 17h is not the secondary checksums.
+    SecondaryWrong,
+    // A wire call or a send outcome that has no place now.
+    OutOfTurn,
+    // A register offset, an ID port, a tag, a base number or a count of cards that there is not.
+    ArgumentOutside,
+    // Send or service on a driver never opened.
+    NeverOpened,
+}
+
+// The paper's number of a refusal, 1 to 13.
+pub fn number(why: Refusal) -> u8
+    ensures { λ r. ⌜ r ≡ numberOf why ⌝ }
+{
+    match why {
+        Refusal::StateUnsound => 1,
+        Refusal::LengthOutside => 2,
+        Refusal::SixteenUnreported => 3,
+        Refusal::NoRoom => 4,
+        Refusal::CardUnfit => 5,
+        Refusal::BudgetShort => 6,
+        Refusal::AreaShort => 7,
+        Refusal::MakerWrong => 8,
+        Refusal::ChecksumWrong => 9,
+        Refusal::SecondaryWrong => 10,
+        Refusal::OutOfTurn => 11,
+        Refusal::ArgumentOutside => 12,
+        Refusal::NeverOpened => 13,
+    }
+}

@@ -1,0 +1,4 @@
+-- What the contracts of the send outcomes cite.
+pub mod Reports
+pub mod Outcome
+pub mod View

@@ -1,0 +1,3 @@
+-- What the contracts of the transmit side cite.
+pub mod Tx
+pub mod View

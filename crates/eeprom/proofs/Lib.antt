@@ -1,3 +1,4 @@
--- What the proofs of several functions use.
+-- What the proofs of several functions use, and worked examples.
 mod Xor
 mod Spans
+mod Examples

@@ -1,0 +1,2 @@
+-- What the contracts of `image_line` cite.
+pub mod Line

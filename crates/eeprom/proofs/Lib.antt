@@ -1,4 +1,3 @@
--- What the proofs of several functions use, and worked examples.
-mod Xor
+-- What the proofs of several functions use.
+pub mod Xor
 mod Spans
-mod Examples

@@ -3,11 +3,11 @@
 -- Assumes nothing.
 use mathlib.Core.Path.{_≡_, refl, sym, ap, _∙_}
 use mathlib.Core.List.{List, [], _∷_, _++_}
-use Prim.Native.Nat.{ℕ, zero, suc, _+_, _-_, _≤_, _<_}
+use Prim.Native.Nat.{ℕ, suc, _+_, _-_, _≤_, _<_}
 use native.Mathlib.Numerals.{add-one}
 use native.Mathlib.Omega.{arith}
 use lib.Bits.{bitXor, xor-zero-r}
-use Rattle.eeprom.specs.Image.{bothBytes, xorOf, from, span}
+use Rattle.eeprom.specs.Image.{bothBytes, xorOf, span}
 use Rattle.eeprom.proofs.Xor.{xor-assoc}
 
 -- Two lists one after the other.

@@ -38,13 +38,13 @@ abbrev pub span : ℕ → ℕ → List ℕ
 span first last = from first (suc last - first)
 
 -- These words, except those.
-abbrev pub isOne : List ℕ → ℕ → Bool
-isOne [] w = false
-isOne (v ∷ those) w = eqb v w || isOne those w
+abbrev pub isAmong : ℕ → List ℕ → Bool
+isAmong w [] = false
+isAmong w (v ∷ those) = eqb v w || isAmong w those
 
 abbrev pub except : List ℕ → List ℕ → List ℕ
 except [] those = []
-except (w ∷ these) those = cond (isOne those w) (except these those) (w ∷ except these those)
+except (w ∷ these) those = cond (isAmong w those) (except these those) (w ∷ except these those)
 
 -- Exclusive-or of both bytes of the words at the offsets.
 unfoldable pub bothBytes : List ℕ → ℕ → ℕ

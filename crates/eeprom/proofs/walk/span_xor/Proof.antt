@@ -2,7 +2,6 @@
 -- The measure is the number of words left. Assumes nothing.
 use Prim.Native.Nat.{suc, _-_}
 use mathlib.Core.Path.{_≡_}
-use native.Mathlib.Omega.{arith}
 use borrow.Author.Needs.{needs}
 use lib.Bits.{bitXor}
 use Rattle.eeprom.specs.Image.{xorOf, span}

@@ -80,8 +80,8 @@ outcome (Refused why) = numberOf why
 -- What the check answers with the lowest bit of one word changed, for each word in order: 00h to 06h, 07h,
 -- 08h to 0Fh, 10h to 17h, 18h to 1Fh, 20h to 3Fh. Words 18h to 1Fh go unnoticed: no checksum covers them.
 -- Words 07h, 0Fh and 17h are each held to one value, so no change of theirs passes. In every other word a change
--- of one byte is noticed, and a change of the same bits in both bytes is not, as an exchange of the two; nor is a
--- change of the same bits in two words of one list: in the exclusive-or they cancel.
+-- of one byte is noticed (`noticed`), and a change of the same bits in both bytes is not, as an exchange
+-- of the two; nor is a change of the same bits in two words of one list: in the exclusive-or they cancel.
 one-bit-changed : map (λ (w : ℕ). outcome (checkOf (with w (bitXor 1 (getD card w 0))))) (span 0x00 0x3F)
     ≡ replicate 7 9 ++ ((8 ∷ []) ++ (replicate 8 9 ++ (replicate 8 10 ++ (replicate 8 0 ++ replicate 32 10))))
 unfolding checkOf wordAt checksumOf secondaryOf xorOf bothBytes

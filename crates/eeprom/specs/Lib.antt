@@ -1,0 +1,2 @@
+-- What the contracts of `eeprom` cite.
+pub mod Image

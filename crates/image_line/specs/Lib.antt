@@ -1,0 +1,3 @@
+-- What the contracts of `image_line` cite.
+pub mod Line
+pub mod Put

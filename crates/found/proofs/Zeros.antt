@@ -2,13 +2,14 @@
 -- Assumes nothing.
 use Prim.Native.Nat.{ℕ, zero, suc, _+_, _<_}
 use mathlib.Core.Path.{_≡_, refl, _∙_, ap}
+use mathlib.Core.Bool.{true}
 use mathlib.Core.List.{List, [], _∷_, map}
 use native.Mathlib.Omega.{arith}
 use Rattle.idport.specs.declared.IdState.{IdState}
 use Rattle.idport.specs.Card.{waiting}
 use Rattle.search.specs.Port.{Talk, done, run}
 use Rattle.search.specs.Search.{puts, idBytes}
-use Rattle.found.specs.Theorems.{Here, One-zero-misses-a-card}
+use Rattle.found.specs.Theorems.{Here, oneZero, obedient, One-zero-misses-a-card}
 use Rattle.found.proofs.Run.{wrote, writes-all}
 use Rattle.found.proofs.Called.{nonzero, roused, calls}
 use Rattle.found.proofs.Round.{deaf}
@@ -22,13 +23,18 @@ missed p (suc n) i s h e = ap (wrote p (idBytes (suc i) n)) (deaf p (s .shift) _
 silent : Talk (List ℕ)
 silent = done []
 
-pub one-zero-misses : One-zero-misses-a-card
+one : (p : ℕ) (s : IdState) → p < 16 → s .command ≡ true → s .port ≡ p → run p oneZero (s ∷ []) .cards ≡ waiting s ∷ []
 unfolding run puts wrote silent
+one p s h c q =
+    let l = writes-all p (0 ∷ idBytes 0 255) silent (s ∷ []) in
+    l .left ∙ ap (λ (t : IdState). t ∷ []) (ap (wrote p (idBytes 0 255)) (roused p s c q) ∙ missed p 255 0 s h refl)
+
+pub one-zero-misses : One-zero-misses-a-card
+unfolding run silent
 one-zero-misses = record {
-  one = λ p s h c q.
-      let l = writes-all p (0 ∷ idBytes 0 255) silent (s ∷ []) in
-      l .left ∙ ap (λ (t : IdState). t ∷ []) (ap (wrote p (idBytes 0 255)) (roused p s c q) ∙ missed p 255 0 s h refl);
+  one = one;
   two = λ p s h.
       let l = calls {P = Here p} p silent (λ _ q. q) (s ∷ []) (h, tt) in
       ap (map (λ (c : IdState). c .command)) (l .left);
+  example = one 1 obedient (omega arith) refl refl;
 }

@@ -7,7 +7,7 @@ use mathlib.Core.List.{List, [], _∷_, map}
 use lib.Dec.{eqb, ltb}
 use lib.ListN.{length, getD}
 use Rattle.idport.specs.declared.IdState.{IdState}
-use Rattle.idport.specs.Card.{based, waiting, idFresh}
+use Rattle.idport.specs.Card.{based, moved, waiting, idFresh}
 use Rattle.search.specs.Port.{Access, after, Talk, done, Ran, run}
 use Rattle.search.specs.Search.{put, puts, idBytes, callUp, search, activate, allOnes}
 use Rattle.search.specs.Calls.{allSound}
@@ -94,14 +94,19 @@ pub record Costs (m n : ℕ) : Type 0 where
 abbrev pub The-search-costs : Type 0
 The-search-costs = (p : ℕ) (cards : List IdState) → Premises p cards → Costs (length cards) (length (run p search cards .accesses))
 
--- An example: two fresh cards, 02 00 00 00 00 01 before 02 00 00 00 00 00.
-abbrev pub twoCards : List IdState
-twoCards = idFresh (0x0200 ∷ 0 ∷ 1 ∷ []) ∷ idFresh (0x0200 ∷ 0 ∷ 0 ∷ []) ∷ []
+-- An example: fresh cards at port 110h, with addresses that end in these numbers.
+abbrev pub freshCards : List ℕ → List IdState
+freshCards ends = map (λ n. idFresh (0x0200 ∷ 0 ∷ n ∷ [])) ends
 
-pub record Two-cards-are-found : Type 0 where
-  pub found : run 1 search twoCards .answer ≡ 0x0200_0000_0000 ∷ 0x0200_0000_0001 ∷ []
-  pub tags : map (λ s. s .tag) (run 1 search twoCards .cards) ≡ 2 ∷ 1 ∷ []
-  pub cost : length (run 1 search twoCards .accesses) ≡ 1_184
+abbrev pub searchOf : List ℕ → Ran (List ℕ)
+searchOf ends = run 1 search (freshCards ends)
+
+pub record Fresh-cards-are-found : Type 0 where
+  pub none : length (searchOf [] .accesses) ≡ 566
+  pub two : length (searchOf (1 ∷ 0 ∷ []) .accesses) ≡ 1_184
+  pub seven : length (searchOf (7 ∷ 3 ∷ 1 ∷ 5 ∷ 2 ∷ 6 ∷ 4 ∷ []) .accesses) ≡ 2_421
+  pub found : searchOf (1 ∷ 0 ∷ []) .answer ≡ 0x0200_0000_0000 ∷ 0x0200_0000_0001 ∷ []
+  pub tags : map (λ s. s .tag) (searchOf (1 ∷ 0 ∷ []) .cards) ≡ 2 ∷ 1 ∷ []
 
 -- What activation makes of a card: the one with the tag is active at the base (31: preconfigured), and each waits for the next sequence.
 abbrev pub configured : ℕ → ℕ → ℕ
@@ -142,9 +147,14 @@ oneZero = put 0 (puts (idBytes 0 255) (done []))
 abbrev pub twoZeros : Talk (List ℕ)
 twoZeros = callUp (done [])
 
+-- a card in ID_CMD at port 110h
+abbrev pub obedient : IdState
+obedient = moved true 1 0 (idFresh [])
+
 pub record One-zero-misses-a-card : Type 0 where
   pub one : (p : ℕ) (s : IdState) → p < 16 → s .command ≡ true → s .port ≡ p → run p oneZero (s ∷ []) .cards ≡ waiting s ∷ []
   pub two : (p : ℕ) (s : IdState) → Here p s → map (λ c. c .command) (run p twoZeros (s ∷ []) .cards) ≡ true ∷ []
+  pub example : run 1 oneZero (obedient ∷ []) .cards ≡ idFresh [] ∷ []
 
 -- Every access, and so every talk, keeps the soundness of all cards.
 pub record Every-access-keeps-soundness : Type 0 where

@@ -1,5 +1,5 @@
 // The promises of the search and of the activation, each as the contract of a function that does nothing: a check names each as proved.
-ghost use Rattle.found.specs.Theorems.{The-search-finds-every-card, The-search-ends, The-search-costs, Two-cards-are-found, Activation-activates-the-tagged-card, A-found-card-is-activated-alone, One-zero-misses-a-card, Every-access-keeps-soundness};
+ghost use Rattle.found.specs.Theorems.{The-search-finds-every-card, The-search-ends, The-search-costs, Fresh-cards-are-found, Activation-activates-the-tagged-card, A-found-card-is-activated-alone, One-zero-misses-a-card, Every-access-keeps-soundness};
 
 pub fn the_search_finds_every_card()
     ensures { λ r. ⌜ The-search-finds-every-card ⌝ }
@@ -13,8 +13,8 @@ pub fn the_search_costs()
     ensures { λ r. ⌜ The-search-costs ⌝ }
 {}
 
-pub fn two_cards_are_found()
-    ensures { λ r. ⌜ Two-cards-are-found ⌝ }
+pub fn fresh_cards_are_found()
+    ensures { λ r. ⌜ Fresh-cards-are-found ⌝ }
 {}
 
 pub fn activation_activates_the_tagged_card()

@@ -1,4 +1,4 @@
-// One access to the ID port, by which every card there is stepped. A port is its x in 1x0h.
+// One access to the ID port, by which every card there is stepped. A port is its x in 1x0h. The public calls test the cards and the port first.
 ghost use mathlib.Core.Path.{_≡_};
 ghost use Prim.Native.Nat.{_≤_, min};
 ghost use Rattle.search.specs.Port.{held, portBit};

@@ -1,4 +1,4 @@
-// What the host does on the port: the search and the activation, by accesses alone. A port is its x in 1x0h.
+// What the host does on the port: the search and the activation, by accesses alone. A port is its x in 1x0h. The public calls test the cards and the arguments first.
 ghost use mathlib.Core.Path.{_≡_};
 ghost use Prim.Native.Nat.{_<_, _≤_};
 ghost use Rattle.search.specs.Held.{Sequenced, CallsUp, ReadsWord, ReadsAddress, Room, Finishes, Searched, Activated};

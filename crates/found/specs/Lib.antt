@@ -1,0 +1,2 @@
+-- What the promises of the search and the activation say.
+pub mod Theorems

@@ -1,0 +1,3 @@
+-- Laws that the proofs of `idport` cite.
+pub mod Chain
+pub mod Keep

@@ -1,0 +1,6 @@
+-- Laws that the proofs of `search` cite.
+pub mod UpTo
+pub mod Cards
+pub mod Accesses
+pub mod Finish
+pub mod Outcomes

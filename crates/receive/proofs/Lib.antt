@@ -1,0 +1,7 @@
+-- Laws of the receive side that hold whatever the code.
+pub mod Laws
+pub mod Facts
+pub mod Oldest
+pub mod Order
+pub mod Keeps
+pub mod Steps

@@ -170,12 +170,12 @@ unfolding wireByte
 byte-facts size b x k =
     by-test (eqb (x .receiver .wire) 2)
     (λ e.
-      let fs : List Frame = x .frames in
-      let space : Bool = fits size b fs in
-      let o : inOrder true fs ≡ true = rw e at (k .order) in
-      let o′ : inOrder true (atNewest (takes b space) fs) ≡ true = order-at true (takes b space) (λ f h. started-shown _ (takes-started b f space (started-told f h))) fs o in
-      let r = readable-at (takes b space) (λ f s. readable-coming f (takes b space f) (takes-started b f space s) (takes-grows b f space .least)) fs o in
-      rw e (record { space = byte-space b size space fs refl (k .space); wire = k .wire; order = rw e o′; read = omega (arith, r, k .read); threshold = k .threshold; early = k .early }))
+    let fs : List Frame = x .frames in
+    let space : Bool = fits size b fs in
+    let o : inOrder true fs ≡ true = rw e at (k .order) in
+    let o′ : inOrder true (atNewest (takes b space) fs) ≡ true = order-at true (takes b space) (λ f h. started-shown _ (takes-started b f space (started-told f h))) fs o in
+    let r = readable-at (takes b space) (λ f s. readable-coming f (takes b space f) (takes-started b f space s) (takes-grows b f space .least)) fs o in
+    rw e (record { space = byte-space b size space fs refl (k .space); wire = k .wire; order = rw e o′; read = omega (arith, r, k .read); threshold = k .threshold; early = k .early }))
     (λ e. rw e k)
 
 end-facts : (size : ℕ) (check alignment : Bool) (x : Rx) → Kept size x → Kept size (wireEnd check alignment x)
@@ -183,14 +183,14 @@ unfolding wireEnd
 end-facts size check alignment x k =
     by-test (eqb (x .receiver .wire) 2)
     (λ e.
-      let fs : List Frame = x .frames in
-      let g : Frame → Frame = ends check alignment in
-      let o : inOrder true fs ≡ true = rw e at (k .order) in
-      let over : (f : Frame) → isComing (g f .state) ≡ false = λ f. ending-over (overran (f .state)) (length (f .bytes)) check alignment in
-      let o′ : inOrder false (atNewest g fs) ≡ true = order-at false g (λ f h. let s = started-told f h in ended-shown (g f) (s .least) (s .most) (over f)) fs o in
-      let r = readable-at g (λ f s. readable-ended f (g f) (over f) (omega arith)) fs o in
-      let same : room (atNewest g fs) ≤ room (atNewest (λ f. f) fs) = room-le g (λ f. f) (λ f. omega arith) fs in
-      rw e (record { space = omega (arith, room-id fs, k .space); wire = lit≤ tt; order = o′; read = omega (arith, r, k .read); threshold = k .threshold; early = k .early }))
+    let fs : List Frame = x .frames in
+    let g : Frame → Frame = ends check alignment in
+    let o : inOrder true fs ≡ true = rw e at (k .order) in
+    let over : (f : Frame) → isComing (g f .state) ≡ false = λ f. ending-over (overran (f .state)) (length (f .bytes)) check alignment in
+    let o′ : inOrder false (atNewest g fs) ≡ true = order-at false g (λ f h. let s = started-told f h in ended-shown (g f) (s .least) (s .most) (over f)) fs o in
+    let r = readable-at g (λ f s. readable-ended f (g f) (over f) (omega arith)) fs o in
+    let same : room (atNewest g fs) ≤ room (atNewest (λ f. f) fs) = room-le g (λ f. f) (λ f. omega arith) fs in
+    rw e (record { space = omega (arith, room-id fs, k .space); wire = lit≤ tt; order = o′; read = omega (arith, r, k .read); threshold = k .threshold; early = k .early }))
     (λ e. rw e (record { space = k .space; wire = lit≤ tt; order = rw e at (k .order); read = k .read; threshold = k .threshold; early = k .early }))
 
 start-facts : (size : ℕ) (taken : Bool) (first : List ℕ) (x : Rx) → length first ≡ 8 → x .receiver .wire ≡ 0 → Kept size x → Kept size (wireStart size taken first x)
@@ -199,10 +199,13 @@ start-facts size taken first x n w k = way (taken && (x .receiver .on && fits8 s
   where
     fs : List Frame
     fs = x .frames
+
     o : inOrder false fs ≡ true
     o = rw w at (k .order)
+
     s : Started (fresh first)
     s = record { least = omega arith; most = omega arith; comes = refl }
+
     way : (t : Bool) → (t ≡ true → fits8 size fs ≡ true) → Kept size (begins t first x)
     way true h = record {
       space = rw (room-snoc fs (fresh first), n) (leb-true (room fs + 8) size (h refl));
@@ -221,11 +224,11 @@ leaves size [] x k = k
 leaves size (f ∷ []) x k =
     by-test (eqb (x .receiver .wire) 2)
     (λ e.
-      let s = started-told f (rw e at (k .order)) in
-      record { space = omega (arith, k .space); wire = rw (s .comes) (lit≤ tt); order = rw (s .comes); read = omega arith; threshold = k .threshold; early = refl })
+    let s = started-told f (rw e at (k .order)) in
+    record { space = omega (arith, k .space); wire = rw (s .comes) (lit≤ tt); order = rw (s .comes); read = omega arith; threshold = k .threshold; early = refl })
     (λ e.
-      let q = not-coming f (rw e at (k .order)) in
-      record { space = omega (arith, k .space); wire = rw q (k .wire); order = rw (q, e); read = omega arith; threshold = k .threshold; early = refl })
+    let q = not-coming f (rw e at (k .order)) in
+    record { space = omega (arith, k .space); wire = rw q (k .wire); order = rw (q, e); read = omega arith; threshold = k .threshold; early = refl })
 leaves size (f ∷ g ∷ fs) x k =
     let p = both (ended f) (inOrder (eqb (x .receiver .wire) 2) (g ∷ fs)) (k .order) in
     let q = not-coming f (p .0) in
@@ -237,9 +240,9 @@ read-facts size x k =
     pick (λ (r : Receiver). Kept size (withReceiver r x)) (x .receiver .failed) _ _
     (λ e. k)
     (λ e.
-      pick (λ (r : Receiver). Kept size (withReceiver r x)) (beyond x) _ _
-      (λ t. record { space = k .space; wire = k .wire; order = k .order; read = k .read; threshold = k .threshold; early = k .early })
-      (λ t. record { space = k .space; wire = k .wire; order = k .order; read = ltb-false _ _ t; threshold = k .threshold; early = k .early }))
+    pick (λ (r : Receiver). Kept size (withReceiver r x)) (beyond x) _ _
+    (λ t. record { space = k .space; wire = k .wire; order = k .order; read = k .read; threshold = k .threshold; early = k .early })
+    (λ t. record { space = k .space; wire = k .wire; order = k .order; read = ltb-false _ _ t; threshold = k .threshold; early = k .early }))
 
 -- ---- every effect on a sound receive side keeps it
 
@@ -353,6 +356,7 @@ flags-same r (f ∷ fs) h e =
     coming true early false e l = (refl, refl)
     coming false early true e l = never (sym (l refl) ∙ e)
     coming false early false e l = (refl, refl)
+
     over : (told early : Bool) → (told || not early) ≡ true → not told ≡ true → (false ≡ early) × (false ≡ told)
     over true early h e = never e
     over false true h e = never h

@@ -49,8 +49,8 @@ overran-word w =
     by-test (leb 32768 w)
     (λ y. rw (le-leb 16 (w / 2048) (omega (arith, leb-true 32768 w y))) (same-leb 24 (w / 2048) 49152 w (λ h. omega arith) (λ h. omega arith)))
     (λ n.
-      let k : w < 32768 = leb-false 32768 w n in
-      rw (lt-leb 49152 w (omega arith), lt-leb 16 (w / 2048) (omega arith)) (by-test (leb 8 (w / 2048)) (λ y. rw y) (λ m. rw m)))
+    let k : w < 32768 = leb-false 32768 w n in
+    rw (lt-leb 49152 w (omega arith), lt-leb 16 (w / 2048) (omega arith)) (by-test (leb 8 (w / 2048)) (λ y. rw y) (λ m. rw m)))
 
 -- rooms
 pub room-told : (fs : List store.Frame) → room (map told fs) ≡ roomIn fs

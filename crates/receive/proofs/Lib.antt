@@ -5,3 +5,5 @@ pub mod Oldest
 pub mod Order
 pub mod Keeps
 pub mod Steps
+pub mod Taking
+pub mod Examples

@@ -87,7 +87,8 @@ pub fn read_data(ram: &[u8], dir: &[u16], size: usize, r: Receive) -> Got
     requires { ⌜ Sound size r (now ram) (now dir) ⌝ }
     ensures { λ o. ⌜ (o .word ≡ dataWord (rxOf size r (now (ram .entry)) (now (dir .entry)))) × Step size (o .receive) (now (ram .entry)) (now (dir .entry)) (now (ram .exit)) (now (dir .exit)) (afterRead (rxOf size r (now (ram .entry)) (now (dir .entry)))) ⌝ }
 {
-    if r.receiver.failed {
+    let a = r.receiver;
+    if a.failed {
         return Got {
             word: 0,
             receive: r,
@@ -95,7 +96,7 @@ pub fn read_data(ram: &[u8], dir: &[u16], size: usize, r: Receive) -> Got
     }
     let count = r.frames;
     let have = receive::readable_bytes(ram, dir, size, count);
-    let read = r.receiver.read;
+    let read = a.read;
     let end = read + 2;
     let mut next = r;
     if have < end {

@@ -1,11 +1,11 @@
 -- Worked numbers of document 01, computed from the definitions. Assumes nothing.
 use mathlib.Core.Path.{_≡_, refl}
-use mathlib.Core.Bool.{Bool, true, false, not, _||_}
-use mathlib.Core.List.{List, [], _∷_, _++_}
+use mathlib.Core.Bool.{Bool, true, false}
+use mathlib.Core.List.{List, [], _∷_}
 use Prim.Native.Nat.{ℕ, zero, suc}
 use lib.ListN.{replicate}
 use Rattle.store.specs.Store.{atNewest}
-use Rattle.receive.specs.Frame.{State, coming, whole, damaged, Frame, Rx, isComing, overran, room}
+use Rattle.receive.specs.Frame.{coming, Frame, Rx, isComing, overran, room}
 use Rattle.receive.specs.Update.{withFailed, withEarly, withThreshold, withReceiver}
 use Rattle.receive.specs.Wire.{passes, begins, wireStart, marked, wireByte, ending, wireEnd}
 use Rattle.receive.specs.Reading.{marks, rxStatus, readable, oldest, dataWord, afterRead, withoutOldest, discard}

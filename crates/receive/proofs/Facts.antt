@@ -53,6 +53,9 @@ sound-told size x h = let p = both (kept size x) _ h in (kept-told size x (p .0)
 pub sound-shown : (size : ℕ) (x : Rx) → Kept size x → earlySettled (x .receiver) (x .frames) ≡ true → sound size x ≡ true
 sound-shown size x k e = rw (kept-shown size x k, e)
 
+pub sound-kept : (size : ℕ) (x : Rx) → sound size x ≡ true → kept size x ≡ true
+sound-kept size x h = both (kept size x) _ h .0
+
 -- ---- a frame that the wire stores is there
 
 some-stored : (size n : ℕ) (ram dir : List ℕ) → inOrder true (framesOf size n ram dir) ≡ true → 0 < n

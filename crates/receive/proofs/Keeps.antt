@@ -1,10 +1,10 @@
--- Every effect keeps what soundness asks of the receive side, but for RX Early, and settling RX Early makes it sound. Assumes nothing.
-use mathlib.Core.Path.{_≡_, refl, sym, _∙_}
+-- Every effect on a sound receive side keeps what soundness asks, but for RX Early, which is settled afterwards. Assumes nothing.
+use mathlib.Core.Path.{_≡_, refl, _∙_}
 use mathlib.Core.Bool.{Bool, true, false, cond, not, _&&_, _||_}
 use mathlib.Core.List.{List, [], _∷_, _++_}
 use Prim.Native.Nat.{ℕ, _+_, _≤_, _<_}
 use native.Mathlib.Omega.{arith}
-use borrow.Author.Tests.{leb-true, leb-false, le-leb, ltb-false, lt-ltb, le-ltb, eqb-false, ne-eqb, not-true}
+use borrow.Author.Tests.{leb-true, leb-false, le-leb, ltb-false, eqb-false, ne-eqb, not-true}
 use lib.Dec.{leb, ltb, eqb, lit<, lit≤}
 use lib.ListN.{length, length-append}
 use Rattle.store.specs.Store.{atNewest}
@@ -13,10 +13,9 @@ use Rattle.receive.specs.Frame.{State, coming, whole, damaged, Frame, Rx
 use Rattle.receive.specs.Update.{withOn, withEarly, withThreshold, withReceiver, withFrames}
 use Rattle.receive.specs.Wire.{fresh, begins, fits8, wireStart, longer, fits, full, marked, takes, wireByte, ending, ends, wireEnd}
 use Rattle.receive.specs.Reading.{readable, beyond, afterRead, withoutOldest, discard, deafened, earlyDefault, rxReset}
-use Rattle.receive.specs.Early.{earlyDue, earlyFlag, toldFlag, settleEarly}
 use Rattle.receive.specs.Sound.{sized, ended, started, inOrder, earlySettled, kept, sound}
 use Rattle.receive.proofs.Laws.{by-test, both, join, never, room-snoc}
-use Rattle.receive.proofs.Facts.{Kept, kept-told, kept-shown, sound-told, sound-shown}
+use Rattle.receive.proofs.Facts.{Kept, kept-shown, sound-told, sound-shown, sound-kept}
 
 -- a property of both ways holds of the way that is taken
 pick : {A : Type 0} (P : A → Type 0) (t : Bool) (x y : A) → (t ≡ true → P x) → (t ≡ false → P y) → P (cond t x y)
@@ -94,13 +93,13 @@ not-coming f h = not-true (isComing (f .state)) (both (sized (length (f .bytes))
 ending-over : (o : Bool) (n : ℕ) (check alignment : Bool) → isComing (ending o n check alignment) ≡ false
 unfolding ending isComing
 ending-over true n check alignment = refl
-ending-over false n check alignment =
-    by-test (ltb 1514 n) (λ y. rw y) (λ m. rw m (by-test (ltb n 60) (λ y. rw y) (λ k. rw k (rest check alignment))))
+ending-over false n check alignment = by-test (ltb 1514 n) (λ y. rw y) (λ m. by-test (ltb n 60) (λ y. rw (m, y)) (λ k. rest check alignment m k))
   where
-    rest : (check alignment : Bool) → isComing (cond alignment (cond check whole (damaged 5)) (damaged 4)) ≡ false
-    rest true true = refl
-    rest false true = refl
-    rest check false = refl
+    rest : (check alignment : Bool) → ltb 1514 n ≡ false → ltb n 60 ≡ false → isComing (ending false n check alignment) ≡ false
+    rest true true m k = rw (m, k)
+    rest true false m k = rw (m, k)
+    rest false true m k = rw (m, k)
+    rest false false m k = rw (m, k)
 
 -- ---- the frames
 
@@ -267,7 +266,7 @@ module _ (size : ℕ) (x : Rx) (h : sound size x ≡ true) where
   discard-kept = kept-shown size _ (pick (Kept size) (x .receiver .failed) x _ (λ e. facts) (λ e. leaves size (x .frames) x facts))
 
   pub on-kept : (v : Bool) → kept size (withReceiver (withOn v (x .receiver)) x) ≡ true
-  on-kept v = both (kept size x) _ h .0
+  on-kept v = sound-kept size x h
 
   pub threshold-kept : (v : ℕ) → v ≤ 2047 → kept size (withReceiver (withThreshold v (x .receiver)) x) ≡ true
   threshold-kept v small =
@@ -287,9 +286,19 @@ module _ (size : ℕ) (x : Rx) (h : sound size x ≡ true) where
       less true false early e = e
       less false false early e = refl
 
--- ---- an empty store is kept, and sound, whatever the size
+-- ---- the size matters to the frames' room alone, so an empty store is sound in any part of the RAM
 
--- an empty store that reads nothing, with the wire idle or ignored
+pub sound-resized : (size other : ℕ) (x : Rx) → room (x .frames) ≤ other → sound size x ≡ true → sound other x ≡ true
+sound-resized size other x space h =
+    let p = sound-told size x h in
+    let k = p .0 in
+    sound-shown other x (record { space = space; wire = k .wire; order = k .order; read = k .read; threshold = k .threshold; early = k .early }) (p .1)
+
+pub empty-resized : (size other : ℕ) (x : Rx) → x .frames ≡ [] → sound size x ≡ true → sound other x ≡ true
+unfolding room
+empty-resized size other x e h = sound-resized size other x (rw e (omega arith)) h
+
+-- nothing stored, nothing read, and the wire idle or ignored: power-on, and RX Reset
 pub empty-sound : (size wire threshold : ℕ) (on failed : Bool) → wire < 2 → threshold ≤ 2047
     → sound size (record { receiver = record { on = on; failed = failed; early = false; told = false; threshold = threshold; read = 0; wire = wire }; frames = [] }) ≡ true
 unfolding room readable inOrder earlySettled
@@ -304,66 +313,5 @@ pub reset-sound : (size : ℕ) (x : Rx) → x .receiver .wire ≤ 2 → sound si
 unfolding rxReset
 reset-sound size x h = empty-sound size (deafened (x .receiver .wire)) earlyDefault false false (deafened-quiet (x .receiver .wire) h) (lit≤ tt)
 
--- a sound receive side with nothing stored is sound in any part of the RAM
-pub empty-any : (size other : ℕ) (x : Rx) → x .frames ≡ [] → sound size x ≡ true → sound other x ≡ true
-unfolding room
-empty-any size other x e h =
-    let p = sound-told size x h in
-    let k = p .0 in
-    sound-shown other x (record { space = rw e (omega arith); wire = k .wire; order = k .order; read = k .read; threshold = k .threshold; early = k .early }) (p .1)
-
--- ---- RX Early, settled at the end of each step, makes it sound
-
-flags-settled : (r : Receiver) (fs : List Frame) → (r .told || not (r .early)) ≡ true
-    → ((toldFlag r fs || not (earlyFlag r fs)) ≡ true) × (earlySettled (withEarly (earlyFlag r fs) (toldFlag r fs) r) fs ≡ true)
-unfolding earlyFlag toldFlag earlySettled
-flags-settled r [] h = (refl, refl)
-flags-settled r (f ∷ fs) h =
-    by-test (isComing (f .state))
-    (λ y. rw y (way (r .told) (r .early) (leb (r .threshold) (length (f .bytes))) h (λ n. lt-ltb _ _ (leb-false (r .threshold) (length (f .bytes)) n))))
-    (λ m. rw m (refl, refl))
-  where
-    way : (told early due : Bool) → (told || not early) ≡ true → (due ≡ false → ltb (length (f .bytes)) (r .threshold) ≡ true)
-        → (((due && not told || told) || not (due && not told || early)) ≡ true) × (((due && not told || told) || ltb (length (f .bytes)) (r .threshold)) ≡ true)
-    way true early true h l = (refl, refl)
-    way true early false h l = (refl, refl)
-    way false early true h l = (refl, refl)
-    way false early false h l = (h, l refl)
-
-pub settled-sound : (size : ℕ) (x : Rx) → kept size x ≡ true → sound size (settleEarly x) ≡ true
-settled-sound size x h =
-    let k = kept-told size x h in
-    let q = flags-settled (x .receiver) (x .frames) (k .early) in
-    sound-shown size (settleEarly x) (record { space = k .space; wire = k .wire; order = k .order; read = k .read; threshold = k .threshold; early = q .0 }) (q .1)
-
--- settling changes nothing that is settled
-flags-same : (r : Receiver) (fs : List Frame) → (r .told || not (r .early)) ≡ true → earlySettled r fs ≡ true → (earlyFlag r fs ≡ r .early) × (toldFlag r fs ≡ r .told)
-unfolding earlyFlag toldFlag earlySettled
-flags-same r [] h e = way (r .told) (r .early) h e
-  where
-    way : (told early : Bool) → (told || not early) ≡ true → not told ≡ true → (false ≡ early) × (false ≡ told)
-    way true early h e = never e
-    way false true h e = never h
-    way false false h e = (refl, refl)
-flags-same r (f ∷ fs) h e =
-    by-test (isComing (f .state))
-    (λ y. rw y (coming (r .told) (r .early) (leb (r .threshold) (length (f .bytes))) (rw y at e) (λ t. le-ltb _ _ (leb-true (r .threshold) (length (f .bytes)) t))))
-    (λ m. rw m (over (r .told) (r .early) h (rw m at e)))
-  where
-    coming : (told early due : Bool) → (told || ltb (length (f .bytes)) (r .threshold)) ≡ true → (due ≡ true → ltb (length (f .bytes)) (r .threshold) ≡ false)
-        → ((due && not told || early) ≡ early) × ((due && not told || told) ≡ told)
-    coming true early true e l = (refl, refl)
-    coming true early false e l = (refl, refl)
-    coming false early true e l = never (sym (l refl) ∙ e)
-    coming false early false e l = (refl, refl)
-
-    over : (told early : Bool) → (told || not early) ≡ true → not told ≡ true → (false ≡ early) × (false ≡ told)
-    over true early h e = never e
-    over false true h e = never h
-    over false false h e = (refl, refl)
-
-pub settled-same : (size : ℕ) (x : Rx) → sound size x ≡ true → settleEarly x ≡ x
-settled-same size x h =
-    let p = sound-told size x h in
-    let q = flags-same (x .receiver) (x .frames) (p .0 .early) (p .1) in
-    rw (q .0, q .1)
+pub reset-kept : (size : ℕ) (x : Rx) → x .receiver .wire ≤ 2 → kept size (rxReset x) ≡ true
+reset-kept size x h = sound-kept size (rxReset x) (reset-sound size x h)

@@ -4,6 +4,8 @@ pub mod Facts
 pub mod Oldest
 pub mod Order
 pub mod Keeps
+pub mod Settled
 pub mod Steps
 pub mod Taking
+pub mod Whole
 pub mod Examples

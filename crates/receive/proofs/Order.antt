@@ -99,9 +99,11 @@ unfolding store.frames
 count-frames [] m = refl
 count-frames (w ∷ ws) m = rw (count-frames ws (drop (round4 (w % 2048)) m))
 
+-- the count is that of the frames
+pub frames-counted : (size n : ℕ) (ram dir : List ℕ) → store.Sound (rxArea size) n ram dir → length (framesOf size n ram dir) ≡ n
+frames-counted size n ram dir S = count-frames (store.part 0 n dir) (store.part 0 size ram) ∙ part-length dir n (omega (arith, S .in-dir, S .few))
+
 -- a frame that fits finds a place
 pub place-left : (size n : ℕ) (s : Bool) (ram dir : List ℕ) → store.Sound (rxArea size) n ram dir → inOrder s (framesOf size n ram dir) ≡ true
     → roomOf (store.words (rxArea size) n dir) + 8 ≤ size → size ≤ 6144 → n < 768
-place-left size n s ram dir S o k h =
-    let c : length (framesOf size n ram dir) ≡ n = count-frames (store.part 0 n dir) (store.part 0 size ram) ∙ part-length dir n (omega (arith, S .in-dir, S .few)) in
-    omega (arith, order-count s (framesOf size n ram dir) o, room-of size n ram dir S)
+place-left size n s ram dir S o k h = omega (arith, frames-counted size n ram dir S, order-count s (framesOf size n ram dir) o, room-of size n ram dir S)

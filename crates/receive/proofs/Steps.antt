@@ -5,6 +5,7 @@ use mathlib.Core.Bool.{true}
 use mathlib.Core.List.{List, map}
 use Prim.Native.Nat.{ℕ, _≤_}
 use native.Mathlib.Omega.{arith}
+use lib.ListN.{length}
 use Rattle.store.specs.Store as store
 use Rattle.store.specs.declared.Area.{Area}
 use Rattle.store.proofs.Lift.{apart-kept}
@@ -12,6 +13,8 @@ use Rattle.receive.specs.declared.Receive.{Receive}
 use Rattle.receive.specs.Frame.{Frame, Rx}
 use Rattle.receive.specs.Early.{settleEarly}
 use Rattle.receive.specs.Sound.{sound}
+use Rattle.receive.proofs.Keeps.{empty-resized}
+use Rattle.receive.proofs.Oldest.{none as empty}
 use Rattle.receive.specs.View.{told, rxArea, rxOf, Packed, Sound, Turns, Step}
 
 same-kept : (i n : ℕ) (l : List ℕ) → store.Kept i n l l
@@ -62,3 +65,17 @@ module _ (size m k : ℕ) (r : Receive) (ram dir ram′ dir′ : List ℕ) (R : 
 
   pub apart-sound : Sound size r ram dir → Sound size r ram′ dir′
   apart-sound S = record { small = S .small; packed = apart-packed (S .packed); calm = ap (λ (y : Rx). sound size y) (apart-same (S .packed)) ∙ S .calm }
+
+-- ---- the RAM is split anew while nothing is stored
+
+module _ (size other : ℕ) (r : Receive) (ram dir : List ℕ) (none : r .frames ≡ 0) where
+  pub resized-same : rxOf other r ram dir ≡ rxOf size r ram dir
+  resized-same = rw (empty other (r .frames) ram dir none, empty size (r .frames) ram dir none)
+
+  pub resized-sound : other ≤ 6144 → 6144 ≤ length ram → Sound size r ram dir → Sound other r ram dir
+  unfolding store.roomOf
+  resized-sound small long S = record {
+    small = small;
+    packed = record { in-ram = omega arith; in-dir = S .packed .in-dir; few = S .packed .few; small = S .packed .small; room = rw none (omega arith) };
+    calm = ap (λ (y : Rx). sound other y) resized-same ∙ empty-resized size other (rxOf size r ram dir) (empty size (r .frames) ram dir none) (S .calm);
+  }

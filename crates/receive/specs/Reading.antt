@@ -5,7 +5,6 @@ use Prim.Native.Nat.{ℕ, _+_, _*_, _-_, _%_}
 use lib.ListN.{length, getD}
 use lib.Dec.{ltb, eqb}
 use Rattle.store.specs.Store.{round4}
-use Rattle.receive.specs.declared.Receiver.{Receiver}
 use Rattle.receive.specs.Frame.{State, coming, whole, damaged, Frame, Rx, isComing, room}
 use Rattle.receive.specs.Update.{withFailed, withRead, withReceiver}
 

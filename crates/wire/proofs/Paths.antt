@@ -1,5 +1,5 @@
 -- The ways through a start, a byte and an end, over plain numbers and lists: what the store does to its frames is what the definition does. Assumes nothing.
-use mathlib.Core.Path.{_≡_, refl, sym, ap, _∙_}
+use mathlib.Core.Path.{_≡_, sym, ap, _∙_}
 use mathlib.Core.Bool.{Bool, true, false, _||_}
 use mathlib.Core.List.{List, [], _∷_, _++_, map}
 use Prim.Native.Nat.{ℕ, _+_, _*_, _-_, _/_, _%_, _≤_, _<_}
@@ -11,7 +11,7 @@ use Rattle.store.specs.Store as store
 use Rattle.store.specs.Store.{atNewest, round4, roomIn, headed, begun}
 use Rattle.store.proofs.Laws.{at-snoc, newest-snoc, older-snoc, snoc-not}
 use Rattle.store.proofs.Lift.{Last, last, becomes-same, after}
-use Rattle.receive.specs.Frame.{State, coming, Frame, isComing, overran}
+use Rattle.receive.specs.Frame.{coming, Frame, overran}
 use Rattle.receive.specs.Wire.{fresh, longer, fits, full, takes, ending, ends}
 use Rattle.receive.specs.Sound.{inOrder}
 use Rattle.receive.specs.View.{stateOf, told, rxArea, framesOf, Turns}

@@ -1,6 +1,5 @@
 -- `reading::deafen` meets its contract: its two answers are the definition's. Assumes nothing.
 use borrow.Author.Tests.{eq-eqb, ne-eqb}
-use mathlib.Core.Path.{refl}
 use Rattle.reading.proofs.deafen.Statement.{statement}
 use Rattle.reading.proofs.deafen.Tie as tie
 

@@ -1,7 +1,6 @@
 -- `reading::discard` meets its contract: the store drops its first frame, and bit 15 of that frame's word says whether it was unfinished. Assumes nothing.
 use borrow.Author.Needs.{needs}
 use borrow.Author.Tests.{le-leb, lt-leb}
-use mathlib.Core.Path.{refl}
 use native.Mathlib.Omega.{arith}
 use Rattle.receive.specs.Reading.{discard, withoutOldest}
 use Rattle.receive.proofs.Laws.{coming-word}

@@ -1,6 +1,5 @@
 -- `reading::rx_complete` meets its contract: bit 15 of the oldest frame's word says whether it is still coming. Assumes nothing.
 use borrow.Author.Needs.{needs}
-use mathlib.Core.Path.{refl}
 use Rattle.receive.specs.Reading.{complete}
 use Rattle.receive.proofs.Oldest.{none}
 use Rattle.reading.proofs.Word.{complete-some}

@@ -1,6 +1,5 @@
 -- `reading::rx_free` meets its contract: the directory's sum is the room of the frames. Assumes nothing.
 use borrow.Author.Needs.{needs}
-use mathlib.Core.Path.{refl}
 use Rattle.receive.proofs.Order.{room-of}
 use Rattle.reading.proofs.rx_free.Statement.{statement}
 use Rattle.reading.proofs.rx_free.Tie as tie

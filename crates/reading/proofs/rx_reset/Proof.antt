@@ -1,6 +1,5 @@
 -- `reading::rx_reset` meets its contract: with no frame counted the store is empty, and the registers are the definition's. Assumes nothing.
 use borrow.Author.Needs.{needs}
-use mathlib.Core.Path.{refl}
 use Rattle.receive.specs.Reading.{rxReset}
 use Rattle.receive.proofs.Steps.{step-same}
 use Rattle.reading.proofs.Word.{packed-none, shown-none}

@@ -1,6 +1,6 @@
 -- `reading::rx_status` meets its contract: the oldest frame's word holds the marks and the count, and no more was read than lets the difference stand. Assumes nothing.
 use borrow.Author.Needs.{needs}
-use mathlib.Core.Path.{_≡_, refl}
+use mathlib.Core.Path.{_≡_}
 use Prim.Native.Nat.{_≤_, _+_, _%_}
 use native.Mathlib.Omega.{arith}
 use lib.ListN.{getD}

@@ -1,7 +1,6 @@
 -- `receive::early_settled` meets its contract: it tests what the oldest frame's word says. Assumes nothing.
 use borrow.Author.Needs.{needs}
 use borrow.Author.Tests.{le-leb, lt-leb}
-use mathlib.Core.Path.{refl}
 use Rattle.receive.specs.Sound.{earlySettled}
 use Rattle.receive.proofs.Oldest.{none, settled-some}
 use Rattle.receive.proofs.early_settled.Statement.{statement}

@@ -1,7 +1,6 @@
 -- `receive::readable_bytes` meets its contract: the oldest frame's word says how many bytes there are, and whether it has ended. Assumes nothing.
 use borrow.Author.Needs.{needs}
 use borrow.Author.Tests.{le-leb, lt-leb}
-use mathlib.Core.Path.{refl}
 use native.Mathlib.Omega.{arith}
 use lib.Dec.{lit<}
 use Rattle.receive.specs.Reading.{readable}

@@ -1,6 +1,5 @@
 -- `receive::settle_early` meets its contract: its two flags are those of the definition, by what the oldest frame's word says. Assumes nothing.
 use borrow.Author.Needs.{needs}
-use mathlib.Core.Path.{refl}
 use Rattle.receive.specs.Early.{earlyFlag, toldFlag}
 use Rattle.receive.proofs.Oldest.{none, early-some, told-some}
 use Rattle.receive.proofs.Steps.{step-same}

@@ -1,6 +1,5 @@
 -- `wire::end_head` meets its contract: its tests are the definition's, in the same order. Assumes nothing.
 use borrow.Author.Tests.{le-leb, lt-leb, lt-ltb, le-ltb, not-true, not-false}
-use mathlib.Core.Path.{refl}
 use lib.Dec.{lit<}
 use Rattle.receive.specs.Wire.{ending}
 use Rattle.receive.specs.View.{stateOf}

@@ -1,6 +1,5 @@
 -- `wire::passes_filter` meets its contract: it is the definition's formula over two tests of the address. Assumes nothing.
 use borrow.Author.Needs.{needs}
-use mathlib.Core.Path.{refl}
 use Rattle.receive.specs.Wire.{passes}
 use Rattle.wire.proofs.passes_filter.Statement.{statement}
 use Rattle.wire.proofs.passes_filter.Tie as tie

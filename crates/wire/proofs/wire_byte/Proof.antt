@@ -1,7 +1,6 @@
 -- `wire::wire_byte` meets its contract: where the wire stores its frame the newest takes the byte, and else nothing changes. Assumes nothing.
 use borrow.Author.Needs.{needs}
 use borrow.Author.Tests.{eq-eqb, ne-eqb}
-use mathlib.Core.Path.{refl}
 use Rattle.receive.specs.Wire.{wireByte}
 use Rattle.receive.proofs.Facts.{stored-order, stored-some}
 use Rattle.receive.proofs.Steps.{step-same, step-turns}

@@ -1,7 +1,7 @@
 -- `wire::wire_end` meets its contract: the newest frame's flags are those of its ending, and an ignored frame leaves no more than an idle wire. Assumes nothing.
 use borrow.Author.Needs.{needs}
 use borrow.Author.Tests.{eq-eqb, ne-eqb}
-use mathlib.Core.Path.{_≡_, refl}
+use mathlib.Core.Path.{_≡_}
 use Prim.Native.Nat.{_<_}
 use native.Mathlib.Omega.{arith}
 use Rattle.receive.specs.Wire.{wireEnd}

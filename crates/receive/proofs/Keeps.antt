@@ -72,11 +72,12 @@ module _ (b : ℕ) (f : Frame) where
       let t = takes-grows space in
       record { least = omega arith; most = t .within (s .most); comes = marked-comes (not (full f) && not space) (f .state) ∙ s .comes }
 
+  -- with room at most one byte more, without it none
   takes-most : length (takes b true f .bytes) ≤ length (f .bytes ++ (b ∷ []))
   takes-most = omega (arith, more, takes-grows true .most)
 
-  takes-none : length (takes b false f .bytes) ≤ length (f .bytes)
-  takes-none = none (overran (f .state)) (full f)
+  takes-same : length (takes b false f .bytes) ≤ length (f .bytes)
+  takes-same = none (overran (f .state)) (full f)
     where
       none : (over much : Bool) → length (cond (over || (much || true)) (f .bytes) (f .bytes ++ (b ∷ []))) ≤ length (f .bytes)
       none true much = omega arith
@@ -162,7 +163,7 @@ readable-ended f g e h = rw e (omega arith)
 
 byte-space : (b size : ℕ) (space : Bool) (fs : List Frame) → fits size b fs ≡ space → room fs ≤ size → room (atNewest (takes b space) fs) ≤ size
 byte-space b size true fs e h = omega (arith, leb-true (room (atNewest (longer b) fs)) size e, room-le (takes b true) (longer b) (λ f. takes-most b f) fs)
-byte-space b size false fs e h = omega (arith, room-id fs, room-le (takes b false) (λ f. f) (λ f. takes-none b f) fs)
+byte-space b size false fs e h = omega (arith, room-id fs, room-le (takes b false) (λ f. f) (λ f. takes-same b f) fs)
 
 byte-facts : (size b : ℕ) (x : Rx) → Kept size x → Kept size (wireByte size b x)
 unfolding wireByte

@@ -12,10 +12,11 @@ use Rattle.store.proofs.Lift.{apart-kept}
 use Rattle.receive.specs.declared.Receive.{Receive}
 use Rattle.receive.specs.Frame.{Frame, Rx}
 use Rattle.receive.specs.Early.{settleEarly}
-use Rattle.receive.specs.Sound.{sound}
-use Rattle.receive.proofs.Keeps.{empty-resized}
-use Rattle.receive.proofs.Oldest.{none as empty}
+use Rattle.receive.specs.Sound.{kept, sound}
 use Rattle.receive.specs.View.{told, rxArea, rxOf, Packed, Sound, Turns, Step}
+use Rattle.receive.proofs.Oldest.{none as empty}
+use Rattle.receive.proofs.Keeps.{empty-resized}
+use Rattle.receive.proofs.Settled.{settled-sound}
 
 same-kept : (i n : ℕ) (l : List ℕ) → store.Kept i n l l
 same-kept i n l = record { below = refl; above = refl; long = refl }
@@ -48,6 +49,12 @@ step-settled size q r ram dir ram′ dir′ x A B = record {
 pub step-sound : (size : ℕ) (r : Receive) (ram dir ram′ dir′ : List ℕ) (x : Rx) → size ≤ 6144 → Step size r ram dir ram′ dir′ x → sound size x ≡ true
     → Sound size r ram′ dir′
 step-sound size r ram dir ram′ dir′ x small A s = record { small = small; packed = A .packed; calm = ap (λ (y : Rx). sound size y) (A .shows) ∙ s }
+
+-- .. and so does an effect that is kept, with RX Early settled after it
+pub settles-sound : (size : ℕ) (q r : Receive) (ram dir ram′ dir′ : List ℕ) (x : Rx) → size ≤ 6144 → kept size x ≡ true → Step size q ram dir ram′ dir′ x
+    → Step size r ram′ dir′ ram′ dir′ (settleEarly (rxOf size q ram′ dir′)) → Sound size r ram′ dir′
+settles-sound size q r ram dir ram′ dir′ x small k A B =
+    step-sound size r ram dir ram′ dir′ (settleEarly x) small (step-settled size q r ram dir ram′ dir′ x A B) (settled-sound size x k)
 
 -- ---- a change outside the receiver's area, as the transmit side makes it: its first byte and its first word are the next
 module _ (size m k : ℕ) (r : Receive) (ram dir ram′ dir′ : List ℕ) (R : store.Kept size m ram ram′) (D : store.Kept 768 k dir dir′) where

@@ -13,14 +13,16 @@ use Rattle.reading.proofs.discard.Tie as tie
 returns : tie.Need-returns
 unfolding discard
 returns c =
-    let s = c .before .before .before .args in
-    step-same (s .size) (s .r) (s .ram .now) (s .dir .now) _ (c .before .before .before .pre .packed) (rw (c .if1 .taken))
+    let o = c .before .before .before in
+    let s = o .args in
+    step-same (s .size) (s .r) (s .ram .now) (s .dir .now) _ (o .pre .packed) (rw (c .if1 .taken))
 
 returns-2 : tie.Need-returns-2
 unfolding discard withoutOldest
 returns-2 c =
-    let s = c .before .before .before .before .args in
-    step-same (s .size) (s .r) (s .ram .now) (s .dir .now) _ (c .before .before .before .before .pre .packed) (rw (c .before .if1 .left, none (s .size) (s .r .frames) (s .ram .now) (s .dir .now) (c .if2 .taken)))
+    let o = c .before .before .before .before in
+    let s = o .args in
+    step-same (s .size) (s .r) (s .ram .now) (s .dir .now) _ (o .pre .packed) (rw (c .before .if1 .left, none (s .size) (s .r .frames) (s .ram .now) (s .dir .now) (c .if2 .taken)))
 
 drop-first-requires : tie.Need-drop-first-requires
 drop-first-requires c κs = (c .before .before .before .before .before .before .before .pre .packed, omega (arith, c .before .before .before .if2 .left))
@@ -28,8 +30,9 @@ drop-first-requires c κs = (c .before .before .before .before .before .before .
 returns-3 : tie.Need-returns-3
 unfolding discard withoutOldest
 returns-3 c =
-    let s = c .before .before .before .before .before .before .before .before .before .before .before .before .before .before .before .before .before .args in
-    let p = c .before .before .before .before .before .before .before .before .before .before .before .before .before .before .before .before .before .pre .packed in
+    let o = c .before .before .before .before .before .before .before .before .before .before .before .before .before .before .before .before .before in
+    let s = o .args in
+    let p = o .pre .packed in
     let some = c .before .before .before .before .before .before .before .before .before .before .before .before .before .if2 .left in
     step-turns (s .size) _ (s .ram .now) (s .dir .now) _ _ _ _
     (oldest-leaves (s .size) (s .r .frames) (s .ram .now) (s .dir .now) p some _ _ (c .before .before .before .before .before .before .before .before .before .drop-first .ensures))
@@ -38,8 +41,9 @@ returns-3 c =
 returns-4 : tie.Need-returns-4
 unfolding discard withoutOldest
 returns-4 c =
-    let s = c .before .before .before .before .before .before .before .before .before .before .before .before .before .before .before .before .args in
-    let p = c .before .before .before .before .before .before .before .before .before .before .before .before .before .before .before .before .pre .packed in
+    let o = c .before .before .before .before .before .before .before .before .before .before .before .before .before .before .before .before in
+    let s = o .args in
+    let p = o .pre .packed in
     let some = c .before .before .before .before .before .before .before .before .before .before .before .before .if2 .left in
     step-turns (s .size) _ (s .ram .now) (s .dir .now) _ _ _ _
     (oldest-leaves (s .size) (s .r .frames) (s .ram .now) (s .dir .now) p some _ _ (c .before .before .before .before .before .before .before .before .drop-first .ensures))

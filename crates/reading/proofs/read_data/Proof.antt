@@ -21,38 +21,44 @@ have c = readable (framesOf (c .args .size) (c .args .r .frames) (c .args .ram .
 returns : tie.Need-returns
 unfolding dataWord afterRead
 returns c =
-    let s = c .before .before .before .before .args in
-    (rw (c .if1 .taken), step-same (s .size) _ (s .ram .now) (s .dir .now) _ (c .before .before .before .before .pre .packed) (rw (c .if1 .taken)))
+    let o = c .before .before .before .before in
+    let s = o .args in
+    (rw (c .if1 .taken), step-same (s .size) _ (s .ram .now) (s .dir .now) _ (o .pre .packed) (rw (c .if1 .taken)))
 
 add-end : tie.Need-add-end
 add-end c =
-    let s = c .before .before .before .before .before .args in
+    let o = c .before .before .before .before .before in
+    let s = o .args in
     let h = c .readable-bytes .ensures in
-    omega (arith, facts (s .size) (s .r) (s .ram .now) (s .dir .now) (c .before .before .before .before .before .pre) .read, h .0, h .1)
+    omega (arith, facts (s .size) (s .r) (s .ram .now) (s .dir .now) (o .pre) .read, h .0, h .1)
 
 returns-2 : tie.Need-returns-2
 unfolding dataWord afterRead have
 returns-2 c =
-    let s = c .before .before .before .before .before .before .before .args in
-    let t : ltb (have (c .before .before .before .before .before .before .before)) (s .r .receiver .read + 2) ≡ true = lt-ltb (have (c .before .before .before .before .before .before .before)) (s .r .receiver .read + 2) (omega (arith, c .before .before .readable-bytes .ensures .0)) in
-    (rw (c .before .before .before .if1 .left, t), step-same (s .size) _ (s .ram .now) (s .dir .now) _ (c .before .before .before .before .before .before .before .pre .packed) (rw (c .before .before .before .if1 .left, t)))
+    let o = c .before .before .before .before .before .before .before in
+    let s = o .args in
+    let t : ltb (have o) (s .r .receiver .read + 2) ≡ true = lt-ltb (have o) (s .r .receiver .read + 2) (omega (arith, c .before .before .readable-bytes .ensures .0)) in
+    (rw (c .before .before .before .if1 .left, t), step-same (s .size) _ (s .ram .now) (s .dir .now) _ (o .pre .packed) (rw (c .before .before .before .if1 .left, t)))
 
 oldest-byte-requires : tie.Need-oldest-byte-requires
 oldest-byte-requires c κs =
-    let s = c .before .before .before .before .before .before .args in
-    (c .before .before .before .before .before .before .pre .packed, readable-there (s .size) (s .r .frames) (s .r .receiver .read) (s .ram .now) (s .dir .now) (omega (arith, c .before .readable-bytes .ensures .0)))
+    let o = c .before .before .before .before .before .before in
+    let s = o .args in
+    (o .pre .packed, readable-there (s .size) (s .r .frames) (s .r .receiver .read) (s .ram .now) (s .dir .now) (omega (arith, c .before .readable-bytes .ensures .0)))
 
 oldest-byte-requires-2 : tie.Need-oldest-byte-requires-2
 oldest-byte-requires-2 c κs =
-    let s = c .before .before .before .before .before .before .before .args in
-    (c .before .before .before .before .before .before .before .pre .packed, readable-there (s .size) (s .r .frames) (s .r .receiver .read) (s .ram .now) (s .dir .now) (omega (arith, c .before .before .readable-bytes .ensures .0)))
+    let o = c .before .before .before .before .before .before .before in
+    let s = o .args in
+    (o .pre .packed, readable-there (s .size) (s .r .frames) (s .r .receiver .read) (s .ram .now) (s .dir .now) (omega (arith, c .before .before .readable-bytes .ensures .0)))
 
 returns-3 : tie.Need-returns-3
 unfolding dataWord afterRead have
 returns-3 c =
-    let s = c .before .before .before .before .before .before .before .before .before .args in
-    let t : ltb (have (c .before .before .before .before .before .before .before .before .before)) (s .r .receiver .read + 2) ≡ false = le-ltb (have (c .before .before .before .before .before .before .before .before .before)) (s .r .receiver .read + 2) (omega (arith, c .before .before .before .before .readable-bytes .ensures .0)) in
-    (rw (c .before .before .before .before .before .if1 .left, t) (omega (arith, c .before .before .oldest-byte .ensures .0, c .before .oldest-byte2 .ensures .0)), step-same (s .size) _ (s .ram .now) (s .dir .now) _ (c .before .before .before .before .before .before .before .before .before .pre .packed) (rw (c .before .before .before .before .before .if1 .left, t)))
+    let o = c .before .before .before .before .before .before .before .before .before in
+    let s = o .args in
+    let t : ltb (have o) (s .r .receiver .read + 2) ≡ false = le-ltb (have o) (s .r .receiver .read + 2) (omega (arith, c .before .before .before .before .readable-bytes .ensures .0)) in
+    (rw (c .before .before .before .before .before .if1 .left, t) (omega (arith, c .before .before .oldest-byte .ensures .0, c .before .oldest-byte2 .ensures .0)), step-same (s .size) _ (s .ram .now) (s .dir .now) _ (o .pre .packed) (rw (c .before .before .before .before .before .if1 .left, t)))
 
 pub read-data-spec : {M : Type 1} → statement M
 read-data-spec =

@@ -25,18 +25,21 @@ sub-left c = omega (arith, few (c .before .before .before) (c .before .before .i
 
 returns-2 : tie.Need-returns-2
 returns-2 c =
-    let s = c .before .before .before .before .args in
-    rw (status-some (s .size) (s .r .frames) (s .ram .now) (s .dir .now) (c .before .before .before .before .pre .packed) (c .before .before .before .if1 .left) (s .r .receiver .read), marks-coming _ (c .if2 .taken))
+    let o = c .before .before .before .before in
+    let s = o .args in
+    rw (status-some (s .size) (s .r .frames) (s .ram .now) (s .dir .now) (o .pre .packed) (c .before .before .before .if1 .left) (s .r .receiver .read), marks-coming _ (c .if2 .taken))
 
 returns-3 : tie.Need-returns-3
 returns-3 c =
-    let s = c .before .before .before .before .before .args in
-    rw (status-some (s .size) (s .r .frames) (s .ram .now) (s .dir .now) (c .before .before .before .before .before .pre .packed) (c .before .before .before .before .if1 .left) (s .r .receiver .read), marks-damaged _ (c .before .if2 .left) (c .if3 .taken))
+    let o = c .before .before .before .before .before in
+    let s = o .args in
+    rw (status-some (s .size) (s .r .frames) (s .ram .now) (s .dir .now) (o .pre .packed) (c .before .before .before .before .if1 .left) (s .r .receiver .read), marks-damaged _ (c .before .if2 .left) (c .if3 .taken))
 
 returns-4 : tie.Need-returns-4
 returns-4 c =
-    let s = c .before .before .before .before .before .args in
-    rw (status-some (s .size) (s .r .frames) (s .ram .now) (s .dir .now) (c .before .before .before .before .before .pre .packed) (c .before .before .before .before .if1 .left) (s .r .receiver .read), marks-whole _ (c .if3 .left)) (omega arith)
+    let o = c .before .before .before .before .before in
+    let s = o .args in
+    rw (status-some (s .size) (s .r .frames) (s .ram .now) (s .dir .now) (o .pre .packed) (c .before .before .before .before .if1 .left) (s .r .receiver .read), marks-whole _ (c .if3 .left)) (omega arith)
 
 pub rx-status-spec : {M : Type 1} → statement M
 rx-status-spec = tie.close (tie.spec returns (λ c. search needs) (λ c. search needs) sub-left (λ c. search needs) returns-2 (λ c. search needs) (λ c. search needs) returns-3 returns-4)

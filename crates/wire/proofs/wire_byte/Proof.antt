@@ -9,8 +9,9 @@ use Rattle.wire.proofs.wire_byte.Tie as tie
 
 store-byte-requires : tie.Need-store-byte-requires
 store-byte-requires c κs =
-    let s = c .before .before .before .before .before .before .args in
-    let p = c .before .before .before .before .before .before .pre in
+    let o = c .before .before .before .before .before .before in
+    let s = o .args in
+    let p = o .pre in
     let h = c .before .before .if1 .taken in
     (p .packed, stored-some (s .size) (s .r) (s .ram .now) (s .dir .now) p h, p .small, stored-order (s .size) (s .r) (s .ram .now) (s .dir .now) p h)
 
@@ -23,8 +24,9 @@ returns c =
 returns-2 : tie.Need-returns-2
 unfolding wireByte
 returns-2 c =
-    let s = c .before .before .before .before .args in
-    step-same (s .size) (s .r) (s .ram .now) (s .dir .now) _ (c .before .before .before .before .pre .packed) (rw (ne-eqb _ _ (c .if1 .left)))
+    let o = c .before .before .before .before in
+    let s = o .args in
+    step-same (s .size) (s .r) (s .ram .now) (s .dir .now) _ (o .pre .packed) (rw (ne-eqb _ _ (c .if1 .left)))
 
 pub wire-byte-spec : {M : Type 1} → statement M
 wire-byte-spec = tie.close (tie.spec store-byte-requires (λ c. search needs) (λ c. search needs) returns returns-2)

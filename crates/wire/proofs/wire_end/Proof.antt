@@ -17,26 +17,31 @@ some c h = stored-some (c .args .size) (c .args .r) (c .args .ram .now) (c .args
 returns : tie.Need-returns
 unfolding wireEnd
 returns c =
-    let s = c .before .before .before .before .before .args in
-    step-same (s .size) _ (s .ram .now) (s .dir .now) _ (c .before .before .before .before .before .pre .packed) (rw (ne-eqb _ _ (c .if1 .taken)))
+    let o = c .before .before .before .before .before in
+    let s = o .args in
+    step-same (s .size) _ (s .ram .now) (s .dir .now) _ (o .pre .packed) (rw (ne-eqb _ _ (c .if1 .taken)))
 
 sub-last : tie.Need-sub-last
 sub-last c = omega (arith, some (c .before .before .before .before .before) (c .if1 .left))
 
 slice-read-last : tie.Need-slice-read-last
 slice-read-last c =
-    let p = c .before .before .before .before .before .before .pre .packed in
-    omega (arith, some (c .before .before .before .before .before .before) (c .before .if1 .left), p .in-dir, p .few)
+    let o = c .before .before .before .before .before .before in
+    let p = o .pre .packed in
+    omega (arith, some o (c .before .if1 .left), p .in-dir, p .few)
 
 set-head-requires : tie.Need-set-head-requires
-set-head-requires c κs = (c .before .before .before .before .before .before .before .before .pre .packed, some (c .before .before .before .before .before .before .before .before) (c .before .before .before .if1 .left), c .end-head .ensures .1)
+set-head-requires c κs =
+    let o = c .before .before .before .before .before .before .before .before in
+    (o .pre .packed, some o (c .before .before .before .if1 .left), c .end-head .ensures .1)
 
 returns-2 : tie.Need-returns-2
 unfolding wireEnd
 returns-2 c =
-    let s = c .before .before .before .before .before .before .before .before .before .before .before .args in
+    let o = c .before .before .before .before .before .before .before .before .before .before .before in
+    let s = o .args in
     step-turns (s .size) _ (s .ram .now) (s .dir .now) _ _ _ _
-    (frame-ends (s .size) (s .r .frames) _ (s .check) (s .alignment) (s .ram .now) (s .dir .now) _ _ (c .before .before .before .before .before .before .before .before .before .before .before .pre .packed) (some (c .before .before .before .before .before .before .before .before .before .before .before) (c .before .before .before .before .before .before .if1 .left)) (c .before .before .before .end-head .ensures .0) (c .before .before .set-head .ensures))
+    (frame-ends (s .size) (s .r .frames) _ (s .check) (s .alignment) (s .ram .now) (s .dir .now) _ _ (o .pre .packed) (some o (c .before .before .before .before .before .before .if1 .left)) (c .before .before .before .end-head .ensures .0) (c .before .before .set-head .ensures))
     (rw (eq-eqb _ _ (c .before .before .before .before .before .before .if1 .left)))
 
 pub wire-end-spec : {M : Type 1} → statement M

@@ -31,33 +31,40 @@ fitting a b m n h = leb-true m n (both b (leb m n) (both a (b && leb m n) h .1) 
 
 begin-requires : tie.Need-begin-requires
 begin-requires c κs =
-    let s = c .before .before .before .before .before .before .before .before .args in
-    let p = c .before .before .before .before .before .before .before .before .pre .0 in
-    let k = fitting (s .taken) (s .r .receiver .on) (c .before .before .before .before .used .result + 8) (s .size) (c .before .before .if1 .taken) in (
+    let o = c .before .before .before .before .before .before .before .before in
+    let s = o .args in
+    let u = c .before .before .before .before .used in
+    let p = o .pre .0 in
+    let k = fitting (s .taken) (s .r .receiver .on) (u .result + 8) (s .size) (c .before .before .if1 .taken) in (
       p .packed,
       place-left (s .size) (s .r .frames) (eqb (s .r .receiver .wire) 2) (s .ram .now) (s .dir .now) (p .packed) (facts (s .size) (s .r) (s .ram .now) (s .dir .now) p .order)
-          (omega (arith, k, c .before .before .before .before .used .ensures)) (p .small),
+          (omega (arith, k, u .ensures)) (p .small),
       lit< tt,
     )
 
 counted : tie.Need-slice-aggregate-append-bytes
 counted c = search needs
 
+-- t6 is the parameter `first`
 append-bytes-requires : tie.Need-append-bytes-requires
 append-bytes-requires c κs =
-    let s = c .before .before .before .before .before .before .before .before .before .before .before .before .before .before .args in
+    let o = c .before .before .before .before .before .before .before .before .before .before .before .before .before .before in
+    let s = o .args in
+    let u = c .before .before .before .before .before .before .before .before .before .before .used in
     let B = c .before .before .before .before .before .begin .ensures in
-    let k = fitting (s .taken) (s .r .receiver .on) (c .before .before .before .before .before .before .before .before .before .before .used .result + 8) (s .size) (c .before .before .before .before .before .before .before .before .if1 .taken) in
+    let k = fitting (s .taken) (s .r .receiver .on) (u .result + 8) (s .size) (c .before .before .before .before .before .before .before .before .if1 .taken) in
     let n8 : length (s .t6) ≡ 8 = sym (counted c) in
     let fs = store.view (rxArea (s .size)) (s .r .frames) (s .ram .now) (s .dir .now) in
-    let e : store.roomIn fs ≡ c .before .before .before .before .before .before .before .before .before .before .used .result = room-in (s .size) (s .r .frames) (s .ram .now) (s .dir .now) (c .before .before .before .before .before .before .before .before .before .before .before .before .before .before .pre .0 .packed) ∙ sym (c .before .before .before .before .before .before .before .before .before .before .used .ensures) in
-    (B .sound, rw (B .holds, n8) (start-open (s .size) (c .before .before .before .before .before .before .before .before .before .before .used .result) 8 16 fs (sym e) (lit≤ tt) (omega (arith, k, e))))
+    let e : store.roomIn fs ≡ u .result = room-in (s .size) (s .r .frames) (s .ram .now) (s .dir .now) (o .pre .0 .packed) ∙ sym (u .ensures) in
+    (B .sound, rw (B .holds, n8) (start-open (s .size) (u .result) 8 16 fs (sym e) (lit≤ tt) (omega (arith, k, e))))
 
 returns : tie.Need-returns
 unfolding wireStart begins
 returns c =
-    let s = c .before .before .before .before .before .before .before .before .before .before .before .before .before .before .before .before .before .before .before .before .args in
-    let t = same-test (c .before .before .before .before .before .before .before .before .before .before .before .before .before .before .before .before .before .before .before .before) (c .before .before .before .before .before .before .before .before .before .before .before .before .before .before .before .before .used .result) true (c .before .before .before .before .before .before .before .before .before .before .before .before .before .before .before .before .used .ensures) (c .before .before .before .before .before .before .before .before .before .before .before .before .before .before .if1 .taken) in
+    let o = c .before .before .before .before .before .before .before .before .before .before .before .before .before .before .before .before .before .before .before .before in
+    let s = o .args in
+    let u = c .before .before .before .before .before .before .before .before .before .before .before .before .before .before .before .before .used in
+    let t = same-test o (u .result) true (u .ensures) (c .before .before .before .before .before .before .before .before .before .before .before .before .before .before .if1 .taken) in
     step-turns (s .size) _ (s .ram .now) (s .dir .now) _ _ _ _
     (start-turns (s .size) (s .r .frames) (s .t6) (s .ram .now) (s .dir .now) _ _ _ _ (c .before .before .before .before .before .before .before .before .before .before .before .begin .ensures) (c .before .before .before .before .before .append-bytes .ensures))
     (rw t)
@@ -65,9 +72,11 @@ returns c =
 returns-2 : tie.Need-returns-2
 unfolding wireStart begins
 returns-2 c =
-    let s = c .before .before .before .before .before .before .before .args in
-    let t = same-test (c .before .before .before .before .before .before .before) (c .before .before .before .used .result) false (c .before .before .before .used .ensures) (c .before .if1 .left) in
-    step-same (s .size) _ (s .ram .now) (s .dir .now) _ (c .before .before .before .before .before .before .before .pre .0 .packed) (rw t)
+    let o = c .before .before .before .before .before .before .before in
+    let s = o .args in
+    let u = c .before .before .before .used in
+    let t = same-test o (u .result) false (u .ensures) (c .before .if1 .left) in
+    step-same (s .size) _ (s .ram .now) (s .dir .now) _ (o .pre .0 .packed) (rw t)
 
 pub wire-start-spec : {M : Type 1} → statement M
 wire-start-spec =

@@ -5,8 +5,7 @@ use Prim.Native.Nat.{ℕ, _+_, _*_, _-_, _%_}
 use lib.ListN.{length, getD}
 use lib.Dec.{ltb, eqb}
 use Rattle.store.specs.Store.{round4}
-use Rattle.receive.specs.declared.Receiver.{Receiver}
-use Rattle.receive.specs.Frame.{State, coming, whole, damaged, Frame, Rx, isComing}
+use Rattle.receive.specs.Frame.{State, coming, whole, damaged, Frame, Rx, isComing, room}
 use Rattle.receive.specs.Update.{withFailed, withRead, withReceiver}
 
 -- ---- RX Status
@@ -30,6 +29,10 @@ rxStatus read (f ∷ fs) = marks (f .state) + unread (length (f .bytes)) read
 unfoldable pub complete : List Frame → Bool
 complete [] = false
 complete (f ∷ fs) = not (isComing (f .state))
+
+-- RX Free: the room that no stored frame takes.
+abbrev pub rxFree : ℕ → List Frame → ℕ
+rxFree size fs = size - room fs
 
 -- ---- the data read
 

@@ -1,9 +1,8 @@
 -- The receive side that registers and memory hold. `size` is the receiver's part of the RAM. Assumes nothing.
 use mathlib.Core.Path.{_≡_}
 use mathlib.Core.List.{List, [], _∷_, map}
-use mathlib.Core.Bool.{Bool, true, false, cond, not, _&&_}
-use Prim.Native.Nat.{ℕ, _-_, _/_, _%_, _≤_}
-use lib.ListN.{length}
+use mathlib.Core.Bool.{Bool, true, cond, not, _&&_}
+use Prim.Native.Nat.{ℕ, _-_, _%_, _≤_}
 use lib.Dec.{leb}
 use Rattle.store.specs.declared.Area.{Area}
 use Rattle.store.specs.Store as store

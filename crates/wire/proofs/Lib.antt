@@ -1,0 +1,2 @@
+-- The ways of the wire's code, over plain numbers and lists.
+pub mod Paths

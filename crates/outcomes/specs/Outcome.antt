@@ -3,7 +3,7 @@ use mathlib.Core.List.{List, [], _∷_, _++_}
 use mathlib.Core.Bool.{Bool, true, false, cond, not, _&&_, _||_}
 use Prim.Native.Nat.{ℕ, _+_, _*_, _/_}
 use lib.ListN.{length}
-use lib.Dec.{ltb, leb, eqb}
+use lib.Dec.{ltb, leb}
 use Rattle.outcomes.specs.declared.Sender.{Sender}
 use Rattle.outcomes.specs.Reports.{Reports, withSender, withStatuses, withOn, withAvailable, withLevel, withStart}
 
@@ -13,6 +13,10 @@ levelDefault = 2044
 
 abbrev pub startDefault : ℕ
 startDefault = 2044
+
+-- Power-on: off, TX Available clear, both thresholds disabled, no status.
+abbrev pub atPowerOn : Reports
+atPowerOn = record { sender = record { on = false; available = false; level = levelDefault; start = startDefault }; statuses = [] }
 
 -- ---- the status stack
 

@@ -21,6 +21,11 @@ reportsOf o = record { sender = o .sender; statuses = stack (o .statuses) }
 abbrev pub Stacked : Outcomes → Type 0
 Stacked o = o .statuses .count ≤ 31
 
+-- the stack is l
+pub record Stacks (s : Statuses) (l : List ℕ) : Type 0 where
+  pub lists : stack s ≡ l
+  pub few : s .count ≤ 31
+
 -- the registers and the stack are q
 pub record Reported (o : Outcomes) (q : Reports) : Type 0 where
   pub tells : reportsOf o ≡ q

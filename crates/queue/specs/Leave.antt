@@ -1,6 +1,6 @@
 -- The oldest packet leaves, and what the wire is told of it. Assumes nothing.
 use mathlib.Core.List.{List, [], _∷_, _++_}
-use mathlib.Core.Bool.{Bool, cond}
+use mathlib.Core.Bool.{Bool, false, cond}
 use Prim.Native.Nat.{ℕ, _-_, _/_, _%_}
 use lib.ListN.{length, replicate}
 use lib.Dec.{eqb}
@@ -16,6 +16,10 @@ wanted p = has 16 (p .head)
 
 abbrev pub checked : Frame → Bool
 checked p = has 4 (p .head)
+
+unfoldable pub oldestWanted : List Frame → Bool
+oldestWanted [] = false
+oldestWanted (p ∷ ps) = wanted p
 
 -- Its bytes, then zeros up to 60 unless bit 13 was set.
 abbrev pub told : Frame → List ℕ

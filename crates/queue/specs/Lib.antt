@@ -4,3 +4,4 @@ pub mod Write
 pub mod Leave
 pub mod Sound
 pub mod View
+pub mod Whole

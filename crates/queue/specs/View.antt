@@ -1,10 +1,10 @@
 -- The transmit FIFO that counts and memory hold. `size` is the transmitter's part of the RAM. Assumes nothing.
 use mathlib.Core.Path.{_≡_}
 use mathlib.Core.List.{List, [], _∷_, _++_}
-use mathlib.Core.Bool.{Bool, true, false, cond, _&&_}
+use mathlib.Core.Bool.{Bool, true, _&&_}
 use Prim.Native.Nat.{ℕ, zero, suc, _+_, _*_, _-_, _%_, _≤_}
 use lib.ListN.{length, drop, getD}
-use lib.Dec.{leb, eqb}
+use lib.Dec.{leb}
 use Rattle.store.specs.declared.Area.{Area}
 use Rattle.store.specs.Store as store
 use Rattle.store.specs.Store.{Frame, roomOf, words, part}

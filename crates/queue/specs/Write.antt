@@ -1,10 +1,10 @@
 -- A word that the host writes to the transmit FIFO. Assumes nothing.
-use mathlib.Core.List.{List, [], _∷_, _++_}
+use mathlib.Core.List.{[], _∷_, _++_}
 use mathlib.Core.Bool.{Bool, true, cond, _&&_}
 use Prim.Native.Nat.{ℕ, _+_, _/_, _%_}
 use lib.ListN.{length, take}
 use lib.Dec.{ltb, leb, eqb}
-use Rattle.store.specs.Store.{Frame, begun, lenOf, round4}
+use Rattle.store.specs.Store.{begun, lenOf, round4}
 use Rattle.queue.specs.Queue.{Part, noPart, Queue, free}
 
 -- a length of 6 to 1,792

@@ -150,7 +150,7 @@ pub fn discard(ram: &mut [u8], dir: &mut [u16], size: usize, r: Receive) -> Rece
 }
 
 // The rest of a begun frame is ignored.
-fn deafen(wire: u8) -> u8
+pub fn deafen(wire: u8) -> u8
     ensures { λ o. ⌜ o ≡ deafened wire ⌝ }
 {
     if wire == 2 {

@@ -2,14 +2,15 @@
 use mathlib.Core.List.{List, [], _∷_}
 use mathlib.Core.Bool.{Bool, true, false, not, _&&_}
 use Prim.Native.Nat.{ℕ}
+use lib.Dec.{eqb}
 use Rattle.store.specs.Store.{Frame}
 use Rattle.queue.specs.Queue.{Queue, empty, free}
 use Rattle.queue.specs.Write.{put}
-use Rattle.queue.specs.Leave.{wanted, leave}
+use Rattle.queue.specs.Leave.{oldestWanted, leave}
 use Rattle.queue.specs.Sound.{orderly}
 use Rattle.outcomes.specs.Reports.{Reports}
 use Rattle.outcomes.specs.Outcome as outcome
-use Rattle.outcomes.specs.Outcome.{succeeded, collided, settleAvailable, filled, availableSettled}
+use Rattle.outcomes.specs.Outcome.{atPowerOn, succeeded, collided, settleAvailable, filled, availableSettled}
 
 pub record Tx : Type 0 where
   pub queue : Queue
@@ -21,21 +22,29 @@ withQueue q x = record { queue = q; reports = x .reports }
 abbrev pub withReports : Reports → Tx → Tx
 withReports r x = record { queue = x .queue; reports = r }
 
+abbrev pub onReports : (Reports → Reports) → Tx → Tx
+onReports g x = withReports (g (x .reports)) x
+
+-- Power-on: the FIFO is empty, and the transmitter off.
+abbrev pub txPowerOn : Tx
+txPowerOn = record { queue = empty; reports = atPowerOn }
+
 -- The host writes a word.
 abbrev pub writeData : ℕ → ℕ → Tx → Tx
 writeData size v x = withQueue (put size v (x .queue)) x
 
--- A send outcome is possible: the transmitter is on, no transmit failure stands, and a whole packet is stored.
+-- a whole packet is stored
 unfoldable pub any : List Frame → Bool
 any [] = false
 any (p ∷ ps) = true
 
+-- No packet and no part of one is written.
+abbrev pub idle : Tx → Bool
+idle x = not (any (x .queue .packets)) && eqb (x .queue .part .words) 0
+
+-- A send outcome is possible: the transmitter is on, no transmit failure stands, and a whole packet is stored.
 abbrev pub ready : Tx → Bool
 ready x = x .reports .sender .on && not (x .queue .failed) && any (x .queue .packets)
-
-unfoldable pub oldestWanted : List Frame → Bool
-oldestWanted [] = false
-oldestWanted (p ∷ ps) = wanted p
 
 -- A whole packet goes at a send outcome: it leaves, its room returns, and the outcome is reported.
 unfoldable pub success : Tx → Tx

@@ -1,0 +1,2 @@
+-- What the contracts of the commands cite.
+pub mod Command

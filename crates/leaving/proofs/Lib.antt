@@ -1,0 +1,3 @@
+-- Laws of the oldest packet.
+pub mod Leave
+pub mod Told

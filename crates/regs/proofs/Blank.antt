@@ -1,0 +1,106 @@
+-- Sides that hold nothing, whatever the memory holds. Assumes nothing.
+use mathlib.Core.Path.{_≡_, refl, ap, ap₂, subst, _∙_}
+use mathlib.Core.List.{List, []}
+use mathlib.Core.Bool.{Bool, false}
+use Prim.Native.Nat.{ℕ, _+_, _-_, _%_, _≤_, _<_}
+use native.Mathlib.Omega.{arith}
+use lib.ListN.{length, getD, replicate}
+use Rattle.store.specs.Store as store
+use Rattle.store.specs.Store.{frames, roomOf}
+use Rattle.idport.specs.declared.IdState.{IdState}
+use Rattle.idport.specs.Card.{idFresh}
+use Rattle.receive.specs.Frame.{Frame}
+use Rattle.receive.specs.Reading.{deafened}
+use Rattle.receive.specs.View.{framesOf, rxArea}
+use Rattle.queue.specs.declared.Fifo.{Fifo}
+use Rattle.queue.specs.Queue.{empty}
+use Rattle.queue.specs.View.{queueOf, partOf, txArea}
+use Rattle.outcomes.specs.declared.Outcomes.{Outcomes}
+use Rattle.outcomes.specs.Reports.{Reports}
+use Rattle.outcomes.specs.Outcome.{atPowerOn}
+use Rattle.outcomes.specs.View.{reportsOf, Reported}
+use Rattle.transmit.specs.Tx.{Tx}
+use Rattle.regs.specs.declared.Card.{Card}
+use Rattle.regs.specs.Adapter.{Adapter}
+use Rattle.regs.specs.Room.{rxSize, txSize}
+use Rattle.regs.specs.Power.{quietRx, powerOn, reset}
+use Rattle.regs.specs.View.{view, Held, Is, Blank, Does}
+use Rattle.regs.proofs.Ranges.{rx-small, tx-small}
+
+-- no frames, and an empty FIFO
+pub no-frames : (size : ℕ) (ram dir : List ℕ) → framesOf size 0 ram dir ≡ []
+unfolding frames
+no-frames size ram dir = refl
+
+abbrev pub emptied : Fifo
+emptied = record { failed = false; packets = 0; words = 0 }
+
+pub no-packets : (size : ℕ) (ram dir : List ℕ) → queueOf size emptied ram dir ≡ empty
+unfolding frames partOf
+no-packets size ram dir = refl
+
+-- they lie in their areas, whatever their sizes
+module _ (split : ℕ) (ram dir : List ℕ) (r : length ram ≡ 8192) (d : length dir ≡ 1110) where
+  pub frames-packed : store.Sound (rxArea (rxSize split)) 0 ram dir
+  unfolding roomOf
+  frames-packed =
+      record
+      { in-ram = omega (arith, rx-small split); in-dir = omega arith; few = omega arith; small = omega arith; room = omega arith }
+
+  pub packets-packed : store.Sound (txArea (txSize split)) 0 ram dir
+  unfolding roomOf
+  packets-packed =
+      record
+      { in-ram = omega (arith, tx-small split); in-dir = omega arith; few = omega arith; small = omega arith; room = omega arith }
+
+abbrev started : List ℕ → ℕ → IdState → Outcomes → Card
+started words wire i o =
+    record {
+      id = i;
+      select = record { window = 0; mask = 0; zero = 0; filter = 0 };
+      lines = record { latch = false; requested = false; low = 0 };
+      config =
+          record {
+            product = getD words 0x03 0;
+            resource = getD words 0x09 0;
+            enabled = false;
+            first = getD words 0x12 0;
+            second = getD words 0x13 0;
+            station = replicate 6 0;
+          };
+      prom = record { last = 0; writable = false };
+      receive = record { receiver = quietRx wire .receiver; frames = 0 };
+      transmit = record { fifo = emptied; outcomes = o };
+    }
+
+-- the card that power-on makes is the adapter at power-on
+pub started-blank : (words : List ℕ) (wire : ℕ) (i : IdState) (o : Outcomes) → i ≡ idFresh words → Reported o atPowerOn
+    → Blank (started words wire i o) (powerOn words wire)
+unfolding view powerOn frames partOf
+started-blank words wire i o e p ram dir r d =
+    record {
+      shows =
+          λ j.
+          record {
+            id = e j;
+            select = powerOn words wire .select;
+            lines = powerOn words wire .lines;
+            config = powerOn words wire .config;
+            prom = powerOn words wire .prom;
+            rx = quietRx wire;
+            tx = record { queue = empty; reports = p .tells j };
+          };
+      held =
+          record {
+            ram-long = r;
+            dir-long = d;
+            frames = frames-packed (getD words 0x13 0 % 4) ram dir r d;
+            packets = packets-packed (getD words 0x13 0 % 4) ram dir r d;
+            statuses = p .stacked;
+          };
+    }
+
+-- Global Reset
+pub reset-does : (c r : Card) (wire : ℕ) → wire ≡ deafened (c .receive .receiver .wire) → Blank r (powerOn (c .id .words) wire) → Does c r reset
+unfolding view reset
+reset-does c r wire e b ram dir h = subst (λ (w : ℕ). Is r ram dir (powerOn (c .id .words) w)) e (b ram dir (h .ram-long) (h .dir-long))

@@ -1,0 +1,86 @@
+-- How a step ends: the flags, settle, and the test of soundness. Assumes nothing.
+use mathlib.Core.Path.{_≡_, refl, sym, ap, subst, subst⁻¹, _∙_}
+use mathlib.Core.Bool.{Bool, true, false, not, _&&_, _||_}
+use mathlib.Core.List.{List}
+use Prim.Native.Nat.{ℕ, _%_, _≤_}
+use native.Mathlib.Omega.{arith}
+use lib.ListN.{length}
+use Rattle.laws.proofs.Tests.{both, join}
+use Rattle.idport.specs.Sound.{idSound}
+use Rattle.receive.specs.declared.Receive.{Receive}
+use Rattle.receive.specs.Frame.{Rx}
+use Rattle.receive.specs.Reading.{complete}
+use Rattle.receive.specs.Early.{settleEarly}
+use Rattle.receive.specs.View as rx
+use Rattle.receive.proofs.Facts.{side-told, side-shown}
+use Rattle.receive.proofs.Settled.{settled-sound}
+use Rattle.receive.proofs.Steps.{step-sound}
+use Rattle.outcomes.specs.Outcome.{some}
+use Rattle.outcomes.specs.View.{stack}
+use Rattle.transmit.specs.declared.Transmit.{Transmit}
+use Rattle.transmit.specs.Tx as txs
+use Rattle.transmit.specs.View as tx
+use Rattle.transmit.proofs.Sound as txp
+use Rattle.regs.specs.declared.Card.{Card}
+use Rattle.regs.specs.declared.Flags.{Flags}
+use Rattle.regs.specs.Adapter.{Adapter}
+use Rattle.regs.specs.Update.{withRx, withTx, withLines, linesLatch}
+use Rattle.regs.specs.Status.{flags, interrupting}
+use Rattle.regs.specs.Settle.{settle, settleSides, withLatch}
+use Rattle.regs.specs.Sound.{selectSound, registersSound, latchSettled, kept, sound}
+use Rattle.regs.specs.Groups.{cardReceive, cardTransmit, cardLines}
+use Rattle.regs.specs.View.{rxSizeOf, txSizeOf, view, Held, Sound, Is, SettlesSides, Stands, soundCard}
+use Rattle.regs.proofs.Ranges.{rx-small, tx-small}
+use Rattle.regs.proofs.Groups.{is-lines}
+use Rattle.regs.proofs.Join.{is-rx, is-tx}
+use Rattle.regs.proofs.Sides.{rx-kept, tx-kept, settle-sound, rx-of, tx-of, registers-of, latch-of, sound-by}
+
+module _ (c : Card) (ram dir : List ℕ) where
+  -- ---- the flags
+
+  pub flags-are : (size : ℕ) (received completed : Bool) → size ≡ rxSizeOf c → received ≡ complete (rx.framesOf size (c .receive .frames) ram dir)
+      → completed ≡ some (stack (c .transmit .outcomes .statuses))
+      → _≡_ {A = Flags}
+      (record {
+        latch = c .lines .latch;
+        failed = c .receive .receiver .failed || c .transmit .fifo .failed;
+        completed = completed;
+        available = c .transmit .outcomes .sender .available;
+        received = received;
+        early = c .receive .receiver .early;
+        requested = c .lines .requested;
+      })
+      (flags (view c ram dir))
+  unfolding view
+  flags-are size received completed e r s =
+      rw (s, r, e)
+
+  -- ---- settle
+
+  pub sides-settle : (rs ts : ℕ) (r : Receive) (t : Transmit) → rs ≡ rxSizeOf c → ts ≡ txSizeOf c → Held c ram dir → kept (view c ram dir) ≡ true
+      → rx.Step rs r ram dir ram dir (settleEarly (rx.rxOf rs (c .receive) ram dir))
+      → tx.Step ts t ram dir ram dir (txs.settle ts (tx.txOf ts (c .transmit) ram dir))
+      → SettlesSides c (cardTransmit t (cardReceive r c)) ram dir
+  unfolding view
+  sides-settle rs ts r t er et h k sr st =
+      let a = view c ram dir in
+      let d = cardReceive r c in
+      let sr′ : rx.Step (rxSizeOf c) r ram dir ram dir (settleEarly (a .rx)) = subst (λ (n : ℕ). rx.Step n r ram dir ram dir (settleEarly (rx.rxOf n (c .receive) ram dir))) er sr in
+      let st′ : tx.Step (txSizeOf c) t ram dir ram dir (txs.settle (txSizeOf c) (a .tx)) = subst (λ (n : ℕ). tx.Step n t ram dir ram dir (txs.settle n (tx.txOf n (c .transmit) ram dir))) et st in
+      let ir = is-rx c ram dir ram dir h r (settleEarly (a .rx)) sr′ in
+      let it = is-tx d ram dir ram dir (ir .held) t (txs.settle (txSizeOf c) (a .tx)) st′ in
+      record {
+        shows = it .shows ∙ ap (withTx (txs.settle (txSizeOf c) (a .tx))) (ir .shows);
+        held = it .held;
+        rx-sound = step-sound (rxSizeOf c) r ram dir ram dir (settleEarly (a .rx)) (rx-small (c .config .second % 4)) sr′ (settled-sound (rxSizeOf c) (a .rx) (rx-kept a k));
+      }
+
+  pub settles : (d : Card) (f : Flags) (i : Bool) → kept (view c ram dir) ≡ true → SettlesSides c d ram dir → f ≡ flags (view d ram dir) → i ≡ interrupting (d .select) f
+      → Stands (cardLines (linesLatch (i || d .lines .latch) (d .lines)) d) ram dir (settle (view c ram dir))
+  unfolding view settle
+  settles d f i k s ef ei =
+      let l = is-lines d ram dir (s .held) (linesLatch (i || d .lines .latch) (d .lines)) in
+      let e : i ≡ interrupting (d .select) (flags (view d ram dir)) = ei ∙ ap (interrupting (d .select)) ef in
+      let shown : view (cardLines (linesLatch (i || d .lines .latch) (d .lines)) d) ram dir ≡ settle (view c ram dir) =
+      l .shows ∙ ap (λ (j : Bool). withLines (linesLatch (j || d .lines .latch) (d .lines)) (view d ram dir)) e ∙ ap withLatch (s .shows) in
+      record { shows = shown; sound = record { held = l .held; calm = ap sound shown ∙ settle-sound (view c ram dir) k } }

@@ -1,0 +1,2 @@
+-- What the contracts of the EEPROM commands cite.
+pub mod Eeprom

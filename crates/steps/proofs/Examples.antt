@@ -1,0 +1,101 @@
+-- Worked examples, by computing: accesses and events on a card that the ID port has activated. Assumes nothing.
+use mathlib.Core.Path.{_≡_, refl}
+use mathlib.Core.List.{List, [], _∷_, _++_}
+use mathlib.Core.Bool.{Bool, true, false}
+use Prim.Native.Nat.{ℕ, zero, suc, _+_, _*_}
+use lib.ListN.{replicate}
+use lib.Dec.{ltb, leb, eqb}
+use Rattle.idport.specs.Card.{activated}
+use Rattle.receive.specs.Frame.{isComing, overran, room}
+use Rattle.receive.specs.Wire as wire
+use Rattle.receive.specs.Wire.{passes, begins, marked, ending}
+use Rattle.receive.specs.Reading as reading
+use Rattle.receive.specs.Reading.{marks, rxStatus, rxFree, complete, readable, oldest, dataWord, afterRead, withoutOldest, discard}
+use Rattle.receive.specs.Early.{earlyFlag, toldFlag}
+use Rattle.store.specs.Store.{atNewest}
+use Rattle.queue.specs.Queue as queue
+use Rattle.queue.specs.Write.{completed, put}
+use Rattle.queue.specs.Leave.{toldOf, others}
+use Rattle.outcomes.specs.Outcome as outcome
+use Rattle.outcomes.specs.Outcome.{top, some, push, rest, succeeded, collided, enable, due}
+use Rattle.transmit.specs.Tx as tx
+use Rattle.regs.specs.Adapter.{Adapter}
+use Rattle.regs.specs.Update.{withId}
+use Rattle.regs.specs.Room.{txSize, rxSize}
+use Rattle.regs.specs.Status.{statusOf, interrupting}
+use Rattle.regs.specs.Settle.{settle}
+use Rattle.regs.specs.Power.{powerOn, reset}
+use Rattle.commands.specs.Command.{act, command, commanded}
+use Rattle.window_read.specs.Read.{window0, window1, window2, window3, window5, wordAt, afterWord}
+use Rattle.window_write.specs.Write.{controlled, write0, write1, write2, inUse, resplit, write3, write, writeWord, writeByte}
+use Rattle.steps.specs.Access.{Access, ReadWord, ReadByte, WriteWord, WriteByte, Step, access, effect, byteAt}
+use Rattle.steps.specs.Event.{wireStart, wireByte, wireEnd, success, collisions}
+
+-- a power-on card with words of zero, activated
+on : Adapter
+on = let a = powerOn (replicate 64 0) 0 in withId (activated 0 (a .id)) a
+
+after : List Access → Adapter → Adapter
+after [] a = a
+after (x ∷ xs) a = after xs ((access x a) .adapter)
+
+reads : ℕ → Adapter → ℕ
+reads o a = (access (ReadWord o) a) .value
+
+-- a command, by its number and argument
+order : ℕ → ℕ → Access
+order n x = WriteWord 14 (n * 2048 + x)
+
+-- window 1, all frames, Read Zero FFh, receiver and transmitter on
+ready : Adapter
+ready = after (order 1 1 ∷ order 16 8 ∷ order 15 255 ∷ order 4 0 ∷ order 9 0 ∷ []) on
+
+words : ℕ → List Access
+words zero = []
+words (suc n) = WriteWord 0 0 ∷ words n
+
+-- n zero bytes come after the first eight
+bytes : ℕ → Adapter → Adapter
+bytes zero a = a
+bytes (suc n) a = bytes n (wireByte 0 a)
+
+frame : ℕ → Bool → Bool → Adapter
+frame n check alignment = wireEnd check alignment (bytes n (wireStart (replicate 8 0) ready))
+
+-- Status in window 1 with nothing pending
+status-idle : reads 14 ready ≡ 0x2000
+unfolding on after reads order ready access effect commanded command act settle powerOn writeWord interrupting earlyFlag toldFlag due enable queue.free queue.room txSize some complete wordAt statusOf
+status-idle = refl
+
+-- 14 bytes leave TX Free 3,052 of 3,072
+free-all : reads 12 ready ≡ 3072
+unfolding on after reads order ready access effect commanded command act settle powerOn writeWord interrupting earlyFlag toldFlag due enable queue.free queue.room txSize some complete wordAt statusOf window1
+free-all = refl
+
+free-14 : reads 12 (after (WriteWord 0 14 ∷ WriteWord 0 0 ∷ words 8) ready) ≡ 3052
+unfolding on after reads order ready words access effect commanded command act settle powerOn writeWord write write1 put completed interrupting earlyFlag toldFlag due enable queue.free queue.room txSize some complete wordAt statusOf window1
+free-14 = refl
+
+good-60 : reads 8 (frame 52 true true) ≡ 0x003C
+unfolding on after reads order ready bytes frame access effect commanded command act settle powerOn writeWord write interrupting earlyFlag toldFlag due enable queue.free queue.room txSize rxSize some complete wordAt statusOf window1 wireStart wireByte wireEnd wire.wireStart wire.wireByte wire.wireEnd begins passes marked ending isComing overran room atNewest rxStatus marks
+good-60 = refl
+
+runt-59 : reads 8 (frame 51 true true) ≡ 0x583B
+unfolding on after reads order ready bytes frame access effect commanded command act settle powerOn writeWord write interrupting earlyFlag toldFlag due enable queue.free queue.room txSize rxSize some complete wordAt statusOf window1 wireStart wireByte wireEnd wire.wireStart wire.wireByte wire.wireEnd begins passes marked ending isComing overran room atNewest rxStatus marks
+runt-59 = refl
+
+bad-check : reads 8 (frame 52 false true) ≡ 0x683C
+unfolding on after reads order ready bytes frame access effect commanded command act settle powerOn writeWord write interrupting earlyFlag toldFlag due enable queue.free queue.room txSize rxSize some complete wordAt statusOf window1 wireStart wireByte wireEnd wire.wireStart wire.wireByte wire.wireEnd begins passes marked ending isComing overran room atNewest rxStatus marks
+bad-check = refl
+
+reading31 : ℕ → Adapter → Adapter
+reading31 zero a = a
+reading31 (suc n) a = reading31 n ((access (ReadWord 0) a) .adapter)
+
+past-1 : reads 8 (reading31 31 (frame 53 true true)) ≡ 0x07FF
+unfolding on after reads order ready bytes frame reading31 access effect commanded command act settle powerOn writeWord write interrupting earlyFlag toldFlag due enable queue.free queue.room txSize rxSize some complete wordAt statusOf window1 wireStart wireByte wireEnd wire.wireStart wire.wireByte wire.wireEnd begins passes marked ending isComing overran room atNewest rxStatus marks afterWord afterRead readable oldest dataWord
+past-1 = refl
+
+past-3 : reads 8 (reading31 32 (frame 53 true true)) ≡ 0x07FD
+unfolding on after reads order ready bytes frame reading31 access effect commanded command act settle powerOn writeWord write interrupting earlyFlag toldFlag due enable queue.free queue.room txSize rxSize some complete wordAt statusOf window1 wireStart wireByte wireEnd wire.wireStart wire.wireByte wire.wireEnd begins passes marked ending isComing overran room atNewest rxStatus marks afterWord afterRead readable oldest dataWord
+past-3 = refl

@@ -1,0 +1,4 @@
+pub mod Examples
+pub mod Keeps
+pub mod Ends
+pub mod Sides

@@ -1,0 +1,2 @@
+-- What the contracts of the reads cite.
+pub mod Read

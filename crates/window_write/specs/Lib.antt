@@ -1,0 +1,2 @@
+-- What the contracts of the writes cite.
+pub mod Write

@@ -4,9 +4,10 @@ use mathlib.Core.Bool.{Bool, true, false, cond, not, _&&_, _||_}
 use mathlib.Core.List.{List, [], _∷_, _++_}
 use Prim.Native.Nat.{ℕ, _+_, _≤_, _<_}
 use native.Mathlib.Omega.{arith}
-use borrow.Author.Tests.{leb-true, ltb-true, le-leb, lt-ltb}
+use borrow.Author.Tests.{leb-true, ltb-true, le-leb, lt-leb, lt-ltb}
 use lib.Dec.{leb, ltb}
 use lib.ListN.{length, length-append}
+use Rattle.outcomes.specs.declared.Sender.{Sender}
 use Rattle.outcomes.specs.Reports.{Reports, withSender, withStatuses, withOn}
 use Rattle.outcomes.specs.Outcome.{atPowerOn, push, rest, pop, off, succeeded, collided, enable, reset, setLevel, setStart, due, settleAvailable, acknowledge, filled, availableSettled}
 use Rattle.outcomes.proofs.Tests.{by-test, both}
@@ -140,6 +141,13 @@ stays false available h = refl
 -- what is settled stays as it is
 pub settle-stays : (free : ℕ) (r : Reports) → availableSettled free (r .sender) ≡ true → settleAvailable free r ≡ r
 settle-stays free r h = rw (stays (due free (r .sender)) (r .sender .available) h)
+
+-- a threshold above 1,792 is disabled; and TX Available that stands is settled
+pub known-settled : (free : ℕ) (s : Sender) → (ltb 1792 (s .level) || s .available) ≡ true → availableSettled free s ≡ true
+unfolding due
+known-settled free s h =
+    by-test (s .available) (λ y. rw y)
+    (λ n. by-test (ltb 1792 (s .level)) (λ y. rw (n, lt-leb (s .level) 1792 (ltb-true 1792 (s .level) y))) (λ m. absurd (let z : _≡_ {A = ℕ} 0 1 = cc in omega arith)))
 
 -- a threshold that is disabled is settled whatever is free
 pub power-on-settled : (free : ℕ) → availableSettled free (atPowerOn .sender) ≡ true

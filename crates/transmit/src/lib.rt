@@ -147,6 +147,12 @@ pub fn settle(ram: &[u8], dir: &[u16], size: usize, t: Transmit) -> Transmit
     requires { ⌜ Unsettled size t (now ram) (now dir) ⌝ }
     ensures { λ r. ⌜ Step size r (now (ram .entry)) (now (dir .entry)) (now (ram .exit)) (now (dir .exit)) (settleOf size (txOf size t (now (ram .entry)) (now (dir .entry)))) ⌝ }
 {
+    // TX Free is summed only where the answer hangs on it.
+    let s = t.outcomes.sender;
+    let known = (1792 < s.level) | s.available;
+    if known {
+        return t;
+    }
     let free = queue::fifo_free(ram, dir, size, t.fifo);
     let o = outcomes::settle_available(t.outcomes, free);
     let mut next = t;

@@ -1,0 +1,2 @@
+-- What the proof of `open` uses.
+pub mod Ways

@@ -1,0 +1,2 @@
+-- What the proof of `send` uses.
+pub mod Ways

@@ -1,0 +1,3 @@
+-- What the contracts of sending cite.
+pub mod Send
+pub mod Sends

@@ -1,0 +1,4 @@
+-- What the proofs of several functions use.
+pub mod Ways
+pub mod Going
+pub mod Unmoved

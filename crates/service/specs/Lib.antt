@@ -1,0 +1,3 @@
+-- What the contracts of a service cite.
+pub mod Service
+pub mod Serves

@@ -1,0 +1,3 @@
+-- Laws that the proofs of the driver use.
+pub mod Runs
+pub mod Reading

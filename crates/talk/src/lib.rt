@@ -1,0 +1,54 @@
+// What a driver call is made of: the registers and commands it names, and the driver's state.
+ghost use mathlib.Core.Path.{_≡_};
+ghost use Rattle.talk.specs.Driver.{driverSound};
+ghost use Rattle.talk.specs.Registers.{unfit};
+
+// Registers, by their offsets: those of window 1, then Status and command, in all windows.
+pub const DATA: u16 = 0x00;
+
+pub const RX_STATUS: u16 = 0x08;
+
+pub const TX_STATUS: u16 = 0x0b;
+
+pub const TX_FREE: u16 = 0x0c;
+
+pub const STATUS: u16 = 0x0e;
+
+// Commands: the number in bits 15-11.
+pub const SELECT_WINDOW: u16 = 1 * 2048;
+
+pub const RX_ENABLE: u16 = 4 * 2048;
+
+pub const RX_DISCARD: u16 = 8 * 2048;
+
+pub const TX_ENABLE: u16 = 9 * 2048;
+
+pub const ACKNOWLEDGE: u16 = 13 * 2048;
+
+pub const INTERRUPT_MASK: u16 = 14 * 2048;
+
+pub const READ_ZERO: u16 = 15 * 2048;
+
+pub const RX_FILTER: u16 = 16 * 2048;
+
+// Whether the driver was opened, the packets sent modulo 65,536, those of them unreported, and an error seen since the last TX Enable.
+pub struct Driver {
+    pub opened: bool,
+    pub sent: u16,
+    pub unreported: u8,
+    pub error: bool,
+}
+
+// The driver's part of the test of soundness.
+pub fn driver_sound(d: Driver) -> bool
+    ensures { λ r. ⌜ r ≡ driverSound d ⌝ }
+{
+    d.unreported <= 16
+}
+
+// Whether a Status word has Adapter Failure or a window other than 1.
+pub fn is_unfit(status: u16) -> bool
+    ensures { λ r. ⌜ r ≡ unfit status ⌝ }
+{
+    (status / 8192 != 1) | (status / 2 % 2 == 1)
+}

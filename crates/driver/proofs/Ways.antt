@@ -28,6 +28,7 @@ use Rattle.sending.specs.declared.Sent.{Sent}
 use Rattle.sending.specs.declared.SendAnswer.the-variants as sending
 use Rattle.sending.specs.Send.{sendTalk}
 use Rattle.sending.specs.Sends as inner-send
+use Rattle.driver.proofs.Unfit.{unfit-at-once}
 use Rattle.driver.specs.Calls.{soundState, large, openCall, sendCall, serviceCall, Opens, Sends, ServiceCall, Services}
 
 -- a refusal that is passed
@@ -121,7 +122,7 @@ module _ (c : Card) (ram dir : List ℕ) (d : Driver) where
                 used = m .used;
                 taken = λ _. record { shows = m .adapter; sound = q };
                 kept = λ n. never (sym n ∙ is-begun);
-                unfit = λ _. u .same;
+                unfit = λ _ e. u .same e (unfit-at-once budget d (view c ram dir) e);
                 lookahead = m .look;
                 frames = m .frame;
               })

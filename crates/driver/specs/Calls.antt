@@ -64,7 +64,7 @@ pub record ServiceCall (begun : Bool) (R : Ran Serving) (c : Card) (ram dir look
   pub used : r .used ≡ length (R .made)
   pub taken : begun ≡ true → Stands (r .card) ram′ dir′ (R .adapter)
   pub kept : begun ≡ false → (r .card ≡ c) × ((ram′ ≡ ram) × (dir′ ≡ dir))
-  pub unfit : begun ≡ true → R .answer .answer ≡ serving.Refused CardUnfit → length (R .made) ≡ 1 → (r .card ≡ c) × ((ram′ ≡ ram) × (dir′ ≡ dir))
+  pub unfit : begun ≡ true → R .answer .answer ≡ serving.Refused CardUnfit → (r .card ≡ c) × ((ram′ ≡ ram) × (dir′ ≡ dir))
   pub lookahead : look′ ≡ inLook (R .answer .bytes) look
   pub frames : frame′ ≡ inFrame (R .answer .bytes) frame
 

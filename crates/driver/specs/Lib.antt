@@ -2,3 +2,4 @@
 pub mod Calls
 pub mod Paper
 pub mod HandUp
+pub mod Unfit

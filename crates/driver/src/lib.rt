@@ -4,6 +4,7 @@ ghost use lib.ListN.{length};
 ghost use denote.Ref.{ptr};
 ghost use Rattle.driver.specs.Calls.{soundState, Opens, Sends, Services};
 ghost use Rattle.driver.specs.HandUp.{area, handed};
+ghost use Rattle.driver.specs.Unfit.{Unfit-comes-at-once};
 use items::Answer;
 use opening::OpenAnswer;
 use opening::Opened;
@@ -122,3 +123,8 @@ pub fn hand_up<'a>(ahead: &'a [u8], frame: &'a [u8], n: usize) -> &'a [u8]
     }
     &frame[..0]
 }
+
+// Refusal 5 comes at the first Status read of a service or not at all.
+pub fn unfit_comes_at_once()
+    ensures { λ _. ⌜ Unfit-comes-at-once ⌝ }
+{}

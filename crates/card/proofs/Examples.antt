@@ -1,0 +1,92 @@
+-- Worked examples of the refusals, by computing. Assumes nothing.
+use mathlib.Core.Path.{_≡_, refl}
+use mathlib.Core.Bool.{Bool, true, false}
+use mathlib.Core.List.{List, []}
+use Prim.Native.Nat.{ℕ}
+use lib.ListN.{replicate}
+use Rattle.idport.specs.Card.{idFresh}
+use Rattle.idport.specs.Sound.{idSound}
+use Rattle.store.specs.Store.{frames, roomOf}
+use Rattle.receive.specs.Sound as rxs
+use Rattle.receive.specs.Reading.{readable}
+use Rattle.receive.specs.View as rx
+use Rattle.queue.specs.Queue as queue
+use Rattle.queue.specs.Sound.{allSized}
+use Rattle.queue.specs.View as fifo
+use Rattle.outcomes.specs.Outcome.{due, some}
+use Rattle.outcomes.specs.View.{soundOutcomes}
+use Rattle.receive.specs.Reading.{complete}
+use Rattle.receive.specs.Frame.{room}
+use Rattle.transmit.specs.View as tx
+use Rattle.regs.specs.declared.Card.{Card}
+use Rattle.regs.specs.Room.{rxSize, txSize}
+use Rattle.regs.specs.Status.{interrupting}
+use Rattle.regs.specs.Sound.{selectSound}
+use Rattle.regs.specs.View.{view, soundCard}
+use Rattle.card.specs.Calls.{judged, isWord, isByte, offWire, onWire}
+
+-- a card at power-on but for its window; its memory matters to no frame and no packet
+inWindow : ℕ → Card
+inWindow w =
+    record {
+      id = idFresh (replicate 64 0);
+      select = record { window = w; mask = 0; zero = 0; filter = 0 };
+      lines = record { latch = false; requested = false; low = 0 };
+      config = record { product = 0; resource = 0; enabled = false; first = 0; second = 0; station = replicate 6 0 };
+      prom = record { last = 0; writable = false };
+      receive = record { receiver = record { on = false; failed = false; early = false; told = false; threshold = 2044; read = 0; wire = 0 }; frames = 0 };
+      transmit =
+          record {
+            fifo = record { failed = false; packets = 0; words = 0 };
+            outcomes = record { sender = record { on = false; available = false; level = 2044; start = 2044 }; statuses = record { entries = replicate 31 0; count = 0 } };
+          };
+    }
+
+-- 1: there is no window 8
+sound-in-1 : soundCard (inWindow 1) [] [] ≡ true
+unfolding inWindow soundCard view idSound selectSound rx.soundSide tx.soundSide fifo.soundFifo fifo.partOf soundOutcomes frames roomOf room rxs.inOrder rxs.earlySettled readable complete some queue.room queue.free allSized due interrupting rxSize txSize
+sound-in-1 = refl
+
+unsound-in-8 : soundCard (inWindow 8) [] [] ≡ false
+unfolding inWindow soundCard view idSound selectSound rx.soundSide tx.soundSide fifo.soundFifo fifo.partOf soundOutcomes frames roomOf room rxs.inOrder rxs.earlySettled readable complete some queue.room queue.free allSized due interrupting rxSize txSize
+unsound-in-8 = refl
+
+state-unsound : judged (soundCard (inWindow 8) [] []) (isWord 0x0E) 12 ≡ 1
+unfolding judged inWindow soundCard view idSound selectSound rx.soundSide tx.soundSide fifo.soundFifo fifo.partOf soundOutcomes frames roomOf room rxs.inOrder rxs.earlySettled readable complete some queue.room queue.free allSized due interrupting rxSize txSize
+state-unsound = refl
+
+-- .. and 1 comes before 12
+unsound-first : judged false (isWord 0x10) 12 ≡ 1
+unfolding judged
+unsound-first = refl
+
+-- 12: an offset above 0Fh, an odd offset for a word, a byte at 00h to 03h in window 1
+above : judged true (isWord 0x10) 12 ≡ 12
+unfolding judged
+above = refl
+
+odd : judged true (isWord 0x0D) 12 ≡ 12
+unfolding judged
+odd = refl
+
+data-byte : judged true (isByte 1 0x03) 12 ≡ 12
+unfolding judged
+data-byte = refl
+
+-- .. but not at 04h, nor in another window
+timer-byte : judged true (isByte 1 0x04) 12 ≡ 0
+unfolding judged
+timer-byte = refl
+
+station-byte : judged true (isByte 2 0x00) 12 ≡ 0
+unfolding judged
+station-byte = refl
+
+-- 11: a start inside a frame, a byte without a start
+start-inside : judged true (offWire 1) 11 ≡ 11
+unfolding judged
+start-inside = refl
+
+byte-without : judged true (onWire 0) 11 ≡ 11
+unfolding judged
+byte-without = refl

@@ -1,9 +1,11 @@
 -- What send outcomes report, the status stack, and the transmitter's commands. Assumes nothing.
-use mathlib.Core.List.{List, [], _∷_, _++_}
+use mathlib.Core.List.{[], _∷_, _++_}
 use mathlib.Core.Bool.{Bool, true, false, cond, not, _&&_, _||_}
 use Prim.Native.Nat.{ℕ, _+_, _*_, _/_}
 use lib.ListN.{length}
 use lib.Dec.{ltb, leb}
+-- the oldest status, whether there is one, and all but the oldest
+unfoldable pub use Rattle.statuses.specs.Stack.{top, some, rest}
 use Rattle.outcomes.specs.declared.Sender.{Sender}
 use Rattle.outcomes.specs.Reports.{Reports, withSender, withStatuses, withOn, withAvailable, withLevel, withStart}
 
@@ -20,25 +22,11 @@ atPowerOn = record { sender = record { on = false; available = false; level = le
 
 -- ---- the status stack
 
--- The oldest is read first; empty reads 00h.
-unfoldable pub top : List ℕ → ℕ
-top [] = 0
-top (x ∷ xs) = x
-
--- TX Complete stands while the status stack isn't empty.
-unfoldable pub some : List ℕ → Bool
-some [] = false
-some (x ∷ xs) = true
-
 -- The stack is 31 deep. The push that fills it adds 04h and turns the transmitter off.
 unfoldable pub push : ℕ → Reports → Reports
 push v r =
     cond (ltb (length (r .statuses)) 30) (withStatuses (r .statuses ++ (v ∷ [])) r)
     (cond (ltb (length (r .statuses)) 31) (record { sender = withOn false (r .sender); statuses = r .statuses ++ ((v + 4) ∷ []) }) r)
-
-unfoldable pub rest : List ℕ → List ℕ
-rest [] = []
-rest (x ∷ xs) = xs
 
 -- A write pops the oldest; it does nothing on an empty stack.
 abbrev pub pop : Reports → Reports

@@ -2,8 +2,9 @@
 ghost use mathlib.Core.Path.{_≡_};
 ghost use Rattle.outcomes.specs.Outcome as outcome;
 ghost use Rattle.outcomes.specs.View.{stack as stackOf, reportsOf, Stacked, Reported, soundOutcomes};
+use statuses::Statuses;
 
-mod stack; // stack.rt: the status stack
+mod stack; // stack.rt: what is pushed on the status stack
 
 // `level`: the TX Available threshold; `start`: the TX Start threshold.
 pub struct Sender {
@@ -11,12 +12,6 @@ pub struct Sender {
     pub available: bool,
     pub level: u16,
     pub start: u16,
-}
-
-// The status stack, oldest first: the first `count` of 31 entries.
-pub struct Statuses {
-    pub entries: [u8; 31],
-    pub count: usize,
 }
 
 pub struct Outcomes {
@@ -75,15 +70,13 @@ pub fn has_status(o: Outcomes) -> bool
     0 < n
 }
 
-// A write to TX Status: the oldest status goes.
+// A write to TX Status: the oldest status goes. The stack is lent where it lies.
 pub fn pop_status(o: Outcomes) -> Outcomes
     requires { ⌜ Stacked o ⌝ }
     ensures { λ r. ⌜ Reported r (outcome.pop (reportsOf o)) ⌝ }
 {
-    let s = o.statuses;
-    let t = stack::popped(s);
     let mut next = o;
-    next.statuses = t;
+    statuses::pop(&mut next.statuses);
     next
 }
 

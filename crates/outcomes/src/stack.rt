@@ -1,42 +1,20 @@
-// The status stack: at most 31 entries, oldest first.
+// What is pushed on the status stack.
 ghost use mathlib.Core.Path.{_≡_};
 ghost use mathlib.Core.Bool.{cond};
-ghost use mathlib.Core.List.{[], _∷_, _++_};
-ghost use Prim.Native.Nat.{_≤_, _<_};
-ghost use Rattle.outcomes.specs.Outcome.{push, rest};
-ghost use Rattle.outcomes.specs.View.{stack, reportsOf, Stacked, Reported, Stacks};
+ghost use Prim.Native.Nat.{_≤_};
+ghost use Rattle.statuses.specs.Stack.{stack, Room, added};
+ghost use Rattle.outcomes.specs.Reports.{withStatuses};
+ghost use Rattle.outcomes.specs.Outcome.{push};
+ghost use Rattle.outcomes.specs.View.{reportsOf, Stacked, Reported};
 use crate::Outcomes;
-use crate::Statuses;
 
-// One more status, the newest.
-pub fn pushed(s: Statuses, v: u8) -> Statuses
-    requires { ⌜ s .count < 31 ⌝ }
-    ensures { λ r. ⌜ Stacks r (stack s ++ (v ∷ [])) ⌝ }
+// One more status, the newest. The stack is lent where it lies.
+pub fn push_status(o: Outcomes, v: u8) -> Outcomes
+    requires { ⌜ Room (o .statuses) ⌝ }
+    ensures { λ r. ⌜ Reported r (withStatuses (added v (stack (o .statuses))) (reportsOf o)) ⌝ }
 {
-    let n = s.count;
-    let mut next = s;
-    next.entries[n] = v;
-    next.count = n + 1;
-    next
-}
-
-// The oldest status goes; an empty stack stays.
-pub fn popped(s: Statuses) -> Statuses
-    requires { ⌜ s .count ≤ 31 ⌝ }
-    ensures { λ r. ⌜ Stacks r (rest (stack s)) ⌝ }
-{
-    let n = s.count;
-    let mut next = s;
-    if n == 0 {
-        return next;
-    }
-    let mut i = 0;
-    while i + 1 < n {
-        let x = s.entries[i + 1];
-        next.entries[i] = x;
-        i += 1;
-    }
-    next.count = n - 1;
+    let mut next = o;
+    statuses::push(&mut next.statuses, v);
     next
 }
 
@@ -45,21 +23,16 @@ pub fn report(o: Outcomes, v: u8) -> Outcomes
     requires { ⌜ Stacked o × (v ≤ 251) ⌝ }
     ensures { λ r. ⌜ Reported r (push v (reportsOf o)) ⌝ }
 {
-    let s = o.statuses;
-    let n = s.count;
-    let mut next = o;
+    let n = o.statuses.count;
     if n < 30 {
-        let t = pushed(s, v);
-        next.statuses = t;
-        return next;
+        return push_status(o, v);
     }
     if n < 31 {
-        let t = pushed(s, v + 4);
-        next.statuses = t;
+        let mut next = push_status(o, v + 4);
         next.sender.on = false;
         return next;
     }
-    next
+    o
 }
 
 // The status of 16 collisions.

@@ -2,7 +2,7 @@
 use mathlib.Core.Path.{_≡_}
 use borrow.Author.Needs.{needs}
 use lib.ListN.{length}
-use Rattle.outcomes.proofs.Entries.{stack-length}
+use Rattle.statuses.proofs.Entries.{stack-length}
 use Rattle.outcomes.specs.Outcome as outcome
 use Rattle.outcomes.proofs.enable.Statement.{statement}
 use Rattle.outcomes.proofs.enable.Tie as tie

@@ -1,7 +1,7 @@
 -- `outcomes::has_status` meets its contract: a status stands where the count is not 0. Assumes nothing.
 use mathlib.Core.Path.{sym}
 use borrow.Author.Needs.{needs}
-use Rattle.outcomes.proofs.Entries.{some-of}
+use Rattle.statuses.proofs.Entries.{some-of}
 use Rattle.outcomes.proofs.has_status.Statement.{statement}
 use Rattle.outcomes.proofs.has_status.Tie as tie
 

@@ -1,7 +1,7 @@
 -- `outcomes::top_status` meets its contract: the first entry is the oldest. Assumes nothing.
 use mathlib.Core.Path.{sym}
 use borrow.Author.Needs.{needs}
-use Rattle.outcomes.proofs.Entries.{top-none, top-some}
+use Rattle.statuses.proofs.Entries.{top-none, top-some}
 use Rattle.outcomes.proofs.top_status.Statement.{statement}
 use Rattle.outcomes.proofs.top_status.Tie as tie
 

@@ -1,14 +1,12 @@
 -- `outcomes::stack::report` meets its contract: each of its three ways is one of the definition's. Assumes nothing.
 use mathlib.Core.Path.{_≡_, ap, _∙_}
-use mathlib.Core.List.{List}
-use mathlib.Core.Bool.{false}
-use Prim.Native.Nat.{ℕ}
 use native.Mathlib.Omega.{arith}
 use borrow.Author.Needs.{needs}
 use lib.ListN.{length}
+use Rattle.statuses.proofs.Entries.{stack-length}
+use Rattle.outcomes.specs.Outcome.{off}
 use Rattle.outcomes.specs.View.{stack, reportsOf}
-use Rattle.outcomes.specs.Reports.{withOn}
-use Rattle.outcomes.proofs.Entries.{stack-length, push-room, push-fills, push-full}
+use Rattle.outcomes.proofs.Entries.{push-room, push-fills, push-full}
 use Rattle.outcomes.proofs.stack.report.Statement.{statement}
 use Rattle.outcomes.proofs.stack.report.Tie as tie
 
@@ -17,27 +15,24 @@ counted c = let s = c .args .o .statuses in stack-length s (search needs) (c .pr
 
 returns : tie.Need-returns
 returns c =
-    let s = c .before .before .before .args in
-    let n = counted (c .before .before .before) in
-    record {
-      tells = ap (λ (l : List ℕ). record { sender = s .o .sender; statuses = l }) (c .pushed .ensures .lists) ∙ push-room (reportsOf (s .o)) (s .v) (omega (arith, c .before .if1 .taken));
-      stacked = c .pushed .ensures .few;
-    }
+    let s = c .before .before .args in
+    let n = counted (c .before .before) in
+    record { tells = c .push-status .ensures .tells ∙ push-room (reportsOf (s .o)) (s .v) (omega (arith, c .before .if1 .taken)); stacked = c .push-status .ensures .stacked }
 
 returns-2 : tie.Need-returns-2
 returns-2 c =
-    let s = c .before .before .before .before .before .args in
-    let n = counted (c .before .before .before .before .before) in
+    let s = c .before .before .before .before .args in
+    let n = counted (c .before .before .before .before) in
     record {
-      tells = ap (λ (l : List ℕ). record { sender = withOn false (s .o .sender); statuses = l }) (c .before .pushed2 .ensures .lists) ∙ push-fills (reportsOf (s .o)) (s .v) (omega (arith, c .before .before .before .if1 .left)) (omega (arith, c .before .before .if2 .taken));
-      stacked = c .before .pushed2 .ensures .few;
+      tells = ap off (c .before .push-status2 .ensures .tells) ∙ push-fills (reportsOf (s .o)) (s .v) (omega (arith, c .before .before .before .if1 .left)) (omega (arith, c .before .before .if2 .taken));
+      stacked = c .before .push-status2 .ensures .stacked;
     }
 
 returns-3 : tie.Need-returns-3
 returns-3 c =
-    let s = c .before .before .before .args in
-    let n = counted (c .before .before .before) in
-    record { tells = push-full (reportsOf (s .o)) (s .v) (omega (arith, c .if2 .left)); stacked = c .before .before .before .pre .0 }
+    let s = c .before .before .args in
+    let n = counted (c .before .before) in
+    record { tells = push-full (reportsOf (s .o)) (s .v) (omega (arith, c .if2 .left)); stacked = c .before .before .pre .0 }
 
 pub report-spec : {M : Type 1} → statement M
 report-spec = tie.close (tie.spec (λ c κs. search needs) returns (λ c. search needs) (λ c κs. search needs) returns-2 returns-3)

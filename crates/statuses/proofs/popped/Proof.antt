@@ -1,12 +1,12 @@
--- `outcomes::stack::popped` meets its contract. The loop's invariant: the first `i` entries are those of the stack without its oldest. Assumes nothing.
+-- `statuses::popped` meets its contract. The loop's invariant: the first `i` entries are those of the stack without its oldest. Assumes nothing.
 use mathlib.Core.Path.{_≡_, refl}
 use Prim.Native.Nat.{_-_, _<_}
 use native.Mathlib.Omega.{arith}
 use borrow.Author.Needs.{needs}
 use lib.ListN.{length, take, drop}
-use Rattle.outcomes.proofs.Entries.{shift-more, shift-done, rest-none}
-use Rattle.outcomes.proofs.stack.popped.Statement.{statement}
-use Rattle.outcomes.proofs.stack.popped.Tie as tie
+use Rattle.statuses.proofs.Entries.{shift-more, shift-done, rest-none}
+use Rattle.statuses.proofs.popped.Statement.{statement}
+use Rattle.statuses.proofs.popped.Tie as tie
 
 abbrev Inv-loop : tie.InvT-loop
 Inv-loop s n next₀ i₀ next i = (i < n) × (length (next .entries) ≡ 31) × (take i (next .entries) ≡ take i (drop 1 (s .entries)))

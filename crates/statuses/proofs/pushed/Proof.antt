@@ -1,8 +1,8 @@
--- `outcomes::stack::pushed` meets its contract: the entry stored at the count is the list's new end. Assumes nothing.
+-- `statuses::pushed` meets its contract: the entry stored at the count is the list's new end. Assumes nothing.
 use borrow.Author.Needs.{needs}
-use Rattle.outcomes.proofs.Entries.{stored}
-use Rattle.outcomes.proofs.stack.pushed.Statement.{statement}
-use Rattle.outcomes.proofs.stack.pushed.Tie as tie
+use Rattle.statuses.proofs.Entries.{stored}
+use Rattle.statuses.proofs.pushed.Statement.{statement}
+use Rattle.statuses.proofs.pushed.Tie as tie
 
 returns : tie.Need-returns
 returns c = let s = c .args .s in record { lists = stored (s .entries) (s .count) (c .args .v) (search needs) (c .pre); few = search needs }

@@ -1,0 +1,2 @@
+-- Laws of the status stack.
+pub mod Entries

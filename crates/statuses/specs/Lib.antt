@@ -1,0 +1,2 @@
+-- What the contracts of the status stack cite.
+pub mod Stack

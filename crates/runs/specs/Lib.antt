@@ -1,0 +1,3 @@
+-- What the promises over runs cite.
+pub mod Run
+pub mod Sound

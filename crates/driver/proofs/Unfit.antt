@@ -111,7 +111,7 @@ second-bit m false true = eq-eqb ((0 + 2 + 4 * m) / 2 % 2) 1 (omega arith)
 second-bit m false false = ne-eqb ((0 + 0 + 4 * m) / 2 % 2) 1 (λ e. omega arith)
 
 -- a card is unfit by its window, or by a failure that is not hidden
-unfit-status : (s : Select) (f : Flags) → unfit (statusOf s f) ≡ (not (eqb (s .window) 1) || has 2 (s .zero) && f .failed)
+pub unfit-status : (s : Select) (f : Flags) → unfit (statusOf s f) ≡ (not (eqb (s .window) 1) || has 2 (s .zero) && f .failed)
 unfolding statusOf
 unfit-status s f =
     let q : Bool = has 4 (s .zero) && f .completed in
@@ -207,11 +207,11 @@ mutual
 
 -- ---- a card that shows a fit Status is fit
 
-or-false : (a b : Bool) → (a || b) ≡ false → (a ≡ false) × (b ≡ false)
+pub or-false : (a b : Bool) → (a || b) ≡ false → (a ≡ false) × (b ≡ false)
 or-false true b e = never (sym e)
 or-false false b e = (refl, e)
 
-not-false-true : (a : Bool) → not a ≡ false → a ≡ true
+pub not-false-true : (a : Bool) → not a ≡ false → a ≡ true
 not-false-true true e = refl
 not-false-true false e = sym e
 

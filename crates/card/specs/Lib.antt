@@ -1,2 +1,3 @@
 -- What the contracts of the public card calls cite.
 pub mod Calls
+pub mod Contracts

@@ -1,18 +1,5 @@
 // The card: its public calls. Each tests the state that it is handed (refusal 1) and its arguments, refuses with card and memory as they came, or takes the step.
-ghost use mathlib.Core.Path.{_≡_};
-ghost use mathlib.Core.Bool.{true, _&&_};
-ghost use mathlib.Core.List.{List};
-ghost use Prim.Native.Nat.{ℕ};
-ghost use lib.Dec.{eqb};
-ghost use lib.ListN.{length};
-ghost use Rattle.idport.specs.Sound.{idSound};
-ghost use Rattle.queue.specs.Leave.{toldOf};
-ghost use Rattle.regs.specs.Power.{powerOn};
-ghost use Rattle.regs.specs.View.{view, Stands, soundCard};
-ghost use Rattle.steps.specs.Access.{access, ReadWord, ReadByte, WriteWord, WriteByte};
-ghost use Rattle.steps.specs.Event as event;
-ghost use Rattle.transmit.specs.Tx.{ready};
-ghost use Rattle.card.specs.Calls.{value, done, readReply, doneReply, toldReply, judged, isWord, isByte, onWire, offWire, Call, Area};
+ghost use Rattle.card.specs.Contracts as contract;
 use idport::IdState;
 use refusal::Refusal;
 use regs::Card;
@@ -52,14 +39,14 @@ pub struct AfterSuccess {
 
 // A card at power-on with these EEPROM words, and nothing on the wire.
 pub fn power_on(words: [u16; 64]) -> Card
-    ensures { λ r. ⌜ ((ram dir : List ℕ) → length ram ≡ 8192 → length dir ≡ 1110 → Stands r ram dir (powerOn words 0)) ⌝ }
+    ensures { λ r. ⌜ contract.power-on words r ⌝ }
 {
     regs::power_on(words, 0)
 }
 
 // The host reads a word.
 pub fn read_word(ram: &[u8; 8192], dir: &[u16; 1110], c: Card, o: u16) -> AfterRead
-    ensures { λ r. ⌜ Call (judged (soundCard c (now (ram .entry)) (now (dir .entry))) (isWord o) 12) (readReply (r .answer)) (value ((access (ReadWord o) (view c (now (ram .entry)) (now (dir .entry)))) .value)) c (r .card) (now (ram .entry)) (now (dir .entry)) (now (ram .entry)) (now (dir .entry)) ((access (ReadWord o) (view c (now (ram .entry)) (now (dir .entry)))) .adapter) ⌝ }
+    ensures { λ r. ⌜ contract.read-word c (now (ram .entry)) (now (dir .entry)) o r ⌝ }
 {
     if !regs::is_sound(ram, dir, c) {
         return AfterRead {
@@ -84,7 +71,7 @@ pub fn read_word(ram: &[u8; 8192], dir: &[u16; 1110], c: Card, o: u16) -> AfterR
 
 // The host reads a byte.
 pub fn read_byte(ram: &[u8; 8192], dir: &[u16; 1110], c: Card, o: u16) -> AfterRead
-    ensures { λ r. ⌜ Call (judged (soundCard c (now (ram .entry)) (now (dir .entry))) (isByte (c .select .window) o) 12) (readReply (r .answer)) (value ((access (ReadByte o) (view c (now (ram .entry)) (now (dir .entry)))) .value)) c (r .card) (now (ram .entry)) (now (dir .entry)) (now (ram .entry)) (now (dir .entry)) ((access (ReadByte o) (view c (now (ram .entry)) (now (dir .entry)))) .adapter) ⌝ }
+    ensures { λ r. ⌜ contract.read-byte c (now (ram .entry)) (now (dir .entry)) o r ⌝ }
 {
     if !regs::is_sound(ram, dir, c) {
         return AfterRead {
@@ -109,7 +96,7 @@ pub fn read_byte(ram: &[u8; 8192], dir: &[u16; 1110], c: Card, o: u16) -> AfterR
 
 // The host writes a word.
 pub fn write_word(ram: &mut [u8; 8192], dir: &mut [u16; 1110], c: Card, o: u16, v: u16) -> AfterCall
-    ensures { λ r. ⌜ Call (judged (soundCard c (now (ram .entry)) (now (dir .entry))) (isWord o) 12) (doneReply (r .answer)) done c (r .card) (now (ram .entry)) (now (dir .entry)) (now (ram .exit)) (now (dir .exit)) ((access (WriteWord o v) (view c (now (ram .entry)) (now (dir .entry)))) .adapter) ⌝ }
+    ensures { λ r. ⌜ contract.write-word c (now (ram .entry)) (now (dir .entry)) o v r (now (ram .exit)) (now (dir .exit)) ⌝ }
 {
     if !regs::is_sound(ram, dir, c) {
         return AfterCall {
@@ -132,7 +119,7 @@ pub fn write_word(ram: &mut [u8; 8192], dir: &mut [u16; 1110], c: Card, o: u16, 
 
 // The host writes a byte.
 pub fn write_byte(ram: &mut [u8; 8192], dir: &mut [u16; 1110], c: Card, o: u16, v: u8) -> AfterCall
-    ensures { λ r. ⌜ Call (judged (soundCard c (now (ram .entry)) (now (dir .entry))) (isByte (c .select .window) o) 12) (doneReply (r .answer)) done c (r .card) (now (ram .entry)) (now (dir .entry)) (now (ram .exit)) (now (dir .exit)) ((access (WriteByte o v) (view c (now (ram .entry)) (now (dir .entry)))) .adapter) ⌝ }
+    ensures { λ r. ⌜ contract.write-byte c (now (ram .entry)) (now (dir .entry)) o v r (now (ram .exit)) (now (dir .exit)) ⌝ }
 {
     if !regs::is_sound(ram, dir, c) {
         return AfterCall {
@@ -155,7 +142,7 @@ pub fn write_byte(ram: &mut [u8; 8192], dir: &mut [u16; 1110], c: Card, o: u16, 
 
 // The wire starts a frame with its first 8 bytes.
 pub fn wire_start(ram: &mut [u8; 8192], dir: &mut [u16; 1110], c: Card, first: [u8; 8]) -> AfterCall
-    ensures { λ r. ⌜ Call (judged (soundCard c (now (ram .entry)) (now (dir .entry))) (offWire (c .receive .receiver .wire)) 11) (doneReply (r .answer)) done c (r .card) (now (ram .entry)) (now (dir .entry)) (now (ram .exit)) (now (dir .exit)) (event.wireStart first (view c (now (ram .entry)) (now (dir .entry)))) ⌝ }
+    ensures { λ r. ⌜ contract.wire-start c (now (ram .entry)) (now (dir .entry)) first r (now (ram .exit)) (now (dir .exit)) ⌝ }
 {
     if !regs::is_sound(ram, dir, c) {
         return AfterCall {
@@ -178,7 +165,7 @@ pub fn wire_start(ram: &mut [u8; 8192], dir: &mut [u16; 1110], c: Card, first: [
 
 // The wire brings a byte.
 pub fn wire_byte(ram: &mut [u8; 8192], dir: &mut [u16; 1110], c: Card, b: u8) -> AfterCall
-    ensures { λ r. ⌜ Call (judged (soundCard c (now (ram .entry)) (now (dir .entry))) (onWire (c .receive .receiver .wire)) 11) (doneReply (r .answer)) done c (r .card) (now (ram .entry)) (now (dir .entry)) (now (ram .exit)) (now (dir .exit)) (event.wireByte b (view c (now (ram .entry)) (now (dir .entry)))) ⌝ }
+    ensures { λ r. ⌜ contract.wire-byte c (now (ram .entry)) (now (dir .entry)) b r (now (ram .exit)) (now (dir .exit)) ⌝ }
 {
     if !regs::is_sound(ram, dir, c) {
         return AfterCall {
@@ -207,7 +194,7 @@ pub fn wire_end(
     check: bool,
     alignment: bool,
 ) -> AfterCall
-    ensures { λ r. ⌜ Call (judged (soundCard c (now (ram .entry)) (now (dir .entry))) (onWire (c .receive .receiver .wire)) 11) (doneReply (r .answer)) done c (r .card) (now (ram .entry)) (now (dir .entry)) (now (ram .exit)) (now (dir .exit)) (event.wireEnd check alignment (view c (now (ram .entry)) (now (dir .entry)))) ⌝ }
+    ensures { λ r. ⌜ contract.wire-end c (now (ram .entry)) (now (dir .entry)) check alignment r (now (ram .exit)) (now (dir .exit)) ⌝ }
 {
     if !regs::is_sound(ram, dir, c) {
         return AfterCall {
@@ -235,8 +222,8 @@ pub fn success(
     c: Card,
     out: &mut [u8; 1792],
 ) -> AfterSuccess
-    ensures { λ r. ⌜ Call (judged (soundCard c (now (ram .entry)) (now (dir .entry))) (ready (view c (now (ram .entry)) (now (dir .entry)) .tx)) 11) (toldReply (r .answer)) (value (length (toldOf (view c (now (ram .entry)) (now (dir .entry)) .tx .queue .packets)))) c (r .card) (now (ram .entry)) (now (dir .entry)) (now (ram .exit)) (now (dir .exit)) (event.success (view c (now (ram .entry)) (now (dir .entry)))) ⌝ }
-    ensures { λ r. ⌜ Area (judged (soundCard c (now (ram .entry)) (now (dir .entry))) (ready (view c (now (ram .entry)) (now (dir .entry)) .tx)) 11) (toldOf (view c (now (ram .entry)) (now (dir .entry)) .tx .queue .packets)) (now (out .entry)) (now (out .exit)) ⌝ }
+    ensures { λ r. ⌜ contract.success c (now (ram .entry)) (now (dir .entry)) r (now (ram .exit)) (now (dir .exit)) ⌝ }
+    ensures { λ r. ⌜ contract.success-area c (now (ram .entry)) (now (dir .entry)) (now (out .entry)) (now (out .exit)) ⌝ }
 {
     if !regs::is_sound(ram, dir, c) {
         return AfterSuccess {
@@ -261,7 +248,7 @@ pub fn success(
 
 // A send outcome: 16 collisions.
 pub fn collisions(ram: &mut [u8; 8192], dir: &mut [u16; 1110], c: Card) -> AfterCall
-    ensures { λ r. ⌜ Call (judged (soundCard c (now (ram .entry)) (now (dir .entry))) (ready (view c (now (ram .entry)) (now (dir .entry)) .tx)) 11) (doneReply (r .answer)) done c (r .card) (now (ram .entry)) (now (dir .entry)) (now (ram .exit)) (now (dir .exit)) (event.collisions (view c (now (ram .entry)) (now (dir .entry)))) ⌝ }
+    ensures { λ r. ⌜ contract.collisions c (now (ram .entry)) (now (dir .entry)) r (now (ram .exit)) (now (dir .exit)) ⌝ }
 {
     if !regs::is_sound(ram, dir, c) {
         return AfterCall {
@@ -284,7 +271,7 @@ pub fn collisions(ram: &mut [u8; 8192], dir: &mut [u16; 1110], c: Card) -> After
 
 // An ID state, as the ID port left it, is seated as the card's own; a reset that is due is carried out.
 pub fn seat(ram: &[u8; 8192], dir: &[u16; 1110], c: Card, i: IdState) -> AfterCall
-    ensures { λ r. ⌜ Call (judged (soundCard c (now (ram .entry)) (now (dir .entry))) (idSound i) 1) (doneReply (r .answer)) done c (r .card) (now (ram .entry)) (now (dir .entry)) (now (ram .entry)) (now (dir .entry)) (event.seat i (view c (now (ram .entry)) (now (dir .entry)))) ⌝ }
+    ensures { λ r. ⌜ contract.seat c (now (ram .entry)) (now (dir .entry)) i r ⌝ }
 {
     if !regs::is_sound(ram, dir, c) {
         return AfterCall {

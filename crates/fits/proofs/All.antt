@@ -1,0 +1,69 @@
+-- A field for each call: the card's and the driver's by their laws, the others by their equations. Assumes nothing.
+use mathlib.Core.Path.{_≡_, refl, sym, ap, _∙_}
+use mathlib.Core.List.{List}
+use Prim.Native.Nat.{ℕ, zero, suc}
+use lib.ListN.{length, take}
+use Rattle.eeprom.specs.Image.{checkOf}
+use Rattle.image_line.specs.declared.Text.{Text}
+use Rattle.image_line.specs.Line.{lineOf, Says}
+use Rattle.queue.specs.Leave.{toldOf}
+use Rattle.regs.specs.declared.Card.{Card}
+use Rattle.regs.specs.View.{view}
+use Rattle.card.specs.Calls.{value, done, Area}
+use Rattle.fits.specs.Fits.{Is, CardCalls, SameText, Nothing-else-fits}
+use Rattle.fits.proofs.Card.{one-answer}
+use Rattle.fits.proofs.Driver.{driver-calls}
+
+module _ {A B : Type 0} where
+  is : (shows : A → B) (wanted : B) → Is shows wanted
+  is shows wanted r r′ k k′ = k ∙ sym k′
+
+same-area : (n : ℕ) (told out x x′ : List ℕ) → Area n told out x → Area n told out x′ → x ≡ x′
+unfolding Area
+same-area zero told out x x′ k k′ = k ∙ sym k′
+same-area (suc n) told out x x′ k k′ = k ∙ sym k′
+
+same-text : (text : List ℕ) (r r′ : Text) → Says text (r .len) (r .bytes) → Says text (r′ .len) (r′ .bytes) → SameText r r′
+same-text text r r′ k k′ =
+    let same : take (r .len) (r .bytes) ≡ take (r′ .len) (r′ .bytes) = k .says ∙ sym (k′ .says) in
+    (k .whole ∙ (ap length same ∙ sym (k′ .whole)), same)
+
+card-calls : (c : Card) (ram dir : List ℕ) → CardCalls c ram dir
+card-calls c ram dir =
+    record {
+      read-word = λ o. one-answer (value _) refl c ram dir _ _ _ _ _ (λ r k. k);
+      read-byte = λ o. one-answer (value _) refl c ram dir _ _ _ _ _ (λ r k. k);
+      write-word = λ o v. one-answer done refl c ram dir _ _ _ _ _ (λ r k. k);
+      write-byte = λ o v. one-answer done refl c ram dir _ _ _ _ _ (λ r k. k);
+      wire-start = λ first. one-answer done refl c ram dir _ _ _ _ _ (λ r k. k);
+      wire-byte = λ b. one-answer done refl c ram dir _ _ _ _ _ (λ r k. k);
+      wire-end = λ check alignment. one-answer done refl c ram dir _ _ _ _ _ (λ r k. k);
+      success = one-answer (value _) refl c ram dir _ _ _ _ _ (λ r k. k);
+      success-area = same-area _ (toldOf (view c ram dir .tx .queue .packets));
+      collisions = one-answer done refl c ram dir _ _ _ _ _ (λ r k. k);
+      seat = λ i. one-answer done refl c ram dir _ _ _ _ _ (λ r k. k);
+    }
+
+pub nothing-else : Nothing-else-fits
+nothing-else =
+    record {
+      power-on = λ words ram dir l m r r′ k k′. k ram dir l m .shows ∙ sym (k′ ram dir l m .shows);
+      card = card-calls;
+      driver = driver-calls;
+      hand-up = λ look frame n r r′ k k′. (k .0 ∙ sym (k′ .0), k .1 ∙ sym (k′ .1));
+      id-port = λ b x. record { port-write = λ byte. is _ _; port-read = is _ _; find-cards = is _ _; activate-card = λ tag base. is _ _ };
+      fresh = λ words. is _ _;
+      id-sound = λ s. is _ _;
+      id-write = λ s x byte. is _ _;
+      id-bit = λ s x. is _ _;
+      id-after-read = λ s x bus. is _ _;
+      place-of = λ w. is _ _;
+      byte-at = λ bytes place. is _ _;
+      word-at = λ bytes w. is _ _;
+      checksum = λ bytes. is _ _;
+      secondary = λ bytes. is _ _;
+      check = λ bytes. is _ _;
+      line = λ found. same-text (lineOf found);
+      line-judged = λ bytes. same-text (lineOf (checkOf bytes));
+      number = λ why. is _ _;
+    }

@@ -1,0 +1,160 @@
+-- Nothing else fits: a field for each public call, over any state and arguments. Assumes nothing.
+use mathlib.Core.Path.{_≡_}
+use mathlib.Core.Bool.{Bool}
+use mathlib.Core.List.{List}
+use Prim.Native.Nat.{ℕ, suc}
+use lib.ListN.{length, take}
+use denote.Ref.{RefT, ptr, now}
+use Rattle.refusal.specs.declared.Refusal.{Refusal}
+use Rattle.refusal.specs.Number.{numberOf}
+use Rattle.eeprom.specs.declared.WordOffset.{WordOffset}
+use Rattle.eeprom.specs.declared.BytePlace.{BytePlace}
+use Rattle.eeprom.specs.declared.Checked.{Checked}
+use Rattle.eeprom.specs.Image as image
+use Rattle.image_line.specs.declared.Text.{Text}
+use Rattle.image_line.specs.Line.{lineOf, Says}
+use Rattle.idport.specs.declared.IdState.{IdState}
+use Rattle.idport.specs.Card.{idFresh, idWrite, idBit, idAfterRead}
+use Rattle.idport.specs.Sound.{idSound}
+use Rattle.search.specs.declared.Bus.{Bus}
+use Rattle.search.specs.Calls as port
+use Rattle.transmit.specs.Tx.{ready}
+use Rattle.regs.specs.declared.Card.{Card}
+use Rattle.regs.specs.View.{view, soundCard}
+use Rattle.card.specs.declared.AfterRead.{AfterRead}
+use Rattle.card.specs.declared.AfterCall.{AfterCall}
+use Rattle.card.specs.declared.AfterSuccess.{AfterSuccess}
+use Rattle.card.specs.Calls.{Reply, refused, readReply, doneReply, toldReply, judged, isWord, isByte, onWire, offWire}
+use Rattle.card.specs.Contracts as contract
+use Rattle.talk.specs.declared.Driver.{Driver}
+use Rattle.opening.specs.declared.Opened.{Opened}
+use Rattle.sending.specs.declared.Sent.{Sent}
+use Rattle.service.specs.declared.Serviced.{Serviced}
+use Rattle.driver.specs.Paper.{openPaper, sendPaper, servicePaper}
+use Rattle.driver.specs.Calls.{Opens, Sends, Services}
+use Rattle.driver.specs.HandUp.{area, handed}
+use Rattle.fits.specs.Agree.{With, WithAreas, End, SameEnd, isRefusal, Left, SameLeft}
+
+-- Two results that meet a contract agree.
+module _ {A : Type 0} where
+  abbrev pub Only : (meets : A → Type 0) → (agree : A → A → Type 0) → Type 0
+  Only meets agree = (r r′ : A) → meets r → meets r′ → agree r r′
+
+module _ {A B : Type 0} where
+  -- .. where the contract is an equation: what the result shows is what the definition gives.
+  abbrev pub Is : (shows : A → B) → (wanted : B) → Type 0
+  Is shows wanted = Only (λ r. shows r ≡ wanted) (λ r r′. shows r ≡ shows r′)
+
+-- ---- the card, handed c with the memory ram and dir
+
+-- The same answer and the same end; the call is refused n exactly when n is the number that `judged` gives.
+pub record OneAnswer {A : Type 0} (number : ℕ) (reply : A → Reply) (end : A → End) (meets : A → Type 0) : Type 0 where
+  pub answer : Only meets (λ r r′. reply r ≡ reply r′)
+  pub ends : Only meets (λ r r′. SameEnd (isRefusal (reply r)) (end r) (end r′))
+  pub refused-when : (r : A) → meets r → (n : ℕ) → number ≡ suc n → reply r ≡ refused (suc n)
+  pub refused-only-when : (r : A) → meets r → (n : ℕ) → reply r ≡ refused n → (number ≡ n) × (n ≡ 0 → ⊥)
+
+-- .. of a read, of a call that answers done, and of a success
+abbrev pub OneRead : List ℕ → List ℕ → ℕ → (AfterRead → Type 0) → Type 0
+OneRead ram dir number meets = OneAnswer number (λ r. readReply (r .answer)) (λ r. record { card = r .card; ram = ram; dir = dir }) meets
+
+abbrev pub OneCall : ℕ → (AfterCall → List ℕ → List ℕ → Type 0) → Type 0
+OneCall number meets =
+    OneAnswer {A = With AfterCall} number (λ r. doneReply (r .result .answer)) (λ r. record { card = r .result .card; ram = r .ram; dir = r .dir })
+    (λ r. meets (r .result) (r .ram) (r .dir))
+
+abbrev pub OneSuccess : ℕ → (AfterSuccess → List ℕ → List ℕ → Type 0) → Type 0
+OneSuccess number meets =
+    OneAnswer {A = With AfterSuccess} number (λ r. toldReply (r .result .answer)) (λ r. record { card = r .result .card; ram = r .ram; dir = r .dir })
+    (λ r. meets (r .result) (r .ram) (r .dir))
+
+module _ (c : Card) (ram dir : List ℕ) where
+  -- the order of the refusals: 1, then the call's own
+  abbrev number : Bool → ℕ → ℕ
+  number ok own = judged (soundCard c ram dir) ok own
+
+  abbrev wire : ℕ
+  wire = c .receive .receiver .wire
+
+  abbrev whole-packet : Bool
+  whole-packet = ready (view c ram dir .tx)
+
+  pub record CardCalls : Type 0 where
+    pub read-word : (o : ℕ) → OneRead ram dir (number (isWord o) 12) (contract.read-word c ram dir o)
+    pub read-byte : (o : ℕ) → OneRead ram dir (number (isByte (c .select .window) o) 12) (contract.read-byte c ram dir o)
+    pub write-word : (o v : ℕ) → OneCall (number (isWord o) 12) (contract.write-word c ram dir o v)
+    pub write-byte : (o v : ℕ) → OneCall (number (isByte (c .select .window) o) 12) (contract.write-byte c ram dir o v)
+    pub wire-start : (first : List ℕ) → OneCall (number (offWire wire) 11) (contract.wire-start c ram dir first)
+    pub wire-byte : (b : ℕ) → OneCall (number (onWire wire) 11) (contract.wire-byte c ram dir b)
+    pub wire-end : (check alignment : Bool) → OneCall (number (onWire wire) 11) (contract.wire-end c ram dir check alignment)
+    pub success : OneSuccess (number whole-packet 11) (contract.success c ram dir)
+    pub success-area : (out : List ℕ) → Only (contract.success-area c ram dir out) (λ out′ out″. out′ ≡ out″)
+    pub collisions : OneCall (number whole-packet 11) (contract.collisions c ram dir)
+    pub seat : (i : IdState) → OneAnswer (number (idSound i) 1) (λ r. doneReply (r .answer)) (λ r. record { card = r .card; ram = ram; dir = dir }) (contract.seat c ram dir i)
+
+-- ---- the driver d, handed the card too
+
+abbrev pub opened : With Opened → Left
+opened r = record { paper = openPaper (r .result .answer); driver = r .result .driver; end = record { card = r .result .card; ram = r .ram; dir = r .dir } }
+
+abbrev pub sent : With Sent → Left
+sent r = record { paper = sendPaper (r .result .answer); driver = r .result .driver; end = record { card = r .result .card; ram = r .ram; dir = r .dir } }
+
+abbrev pub served : WithAreas Serviced → Left
+served r = record { paper = servicePaper (r .result .answer) (r .result .used); driver = r .result .driver; end = record { card = r .result .card; ram = r .ram; dir = r .dir } }
+
+module _ (c : Card) (ram dir : List ℕ) (d : Driver) where
+  abbrev Serves : ℕ → List ℕ → List ℕ → WithAreas Serviced → Type 0
+  Serves budget look frame r = Services c ram dir d budget look frame (r .result) (r .ram) (r .dir) (r .look) (r .frame)
+
+  pub record DriverCalls : Type 0 where
+    pub «open» : (w₀ w₁ w₂ : ℕ) → Only (λ r. Opens c ram dir d w₀ w₁ w₂ (r .result) (r .ram) (r .dir)) (λ r r′. SameLeft (opened r) (opened r′))
+    pub send : (packet : List ℕ) → Only (λ r. Sends c ram dir d packet (r .result) (r .ram) (r .dir)) (λ r r′. SameLeft (sent r) (sent r′))
+    pub service : (budget : ℕ) (look frame : List ℕ) → Only (Serves budget look frame) (λ r r′. SameLeft (served r) (served r′))
+    pub service-used : (budget : ℕ) (look frame : List ℕ) → Only (Serves budget look frame) (λ r r′. r .result .used ≡ r′ .result .used)
+    pub service-areas : (budget : ℕ) (look frame : List ℕ) → Only (Serves budget look frame) (λ r r′. (r .look ≡ r′ .look) × (r .frame ≡ r′ .frame))
+
+-- ---- the ID port, with its cards on the bus b
+
+pub record PortCalls (b : Bus) (x : ℕ) : Type 0 where
+  pub port-write : (byte : ℕ) → Is port.wroteOf (port.portWrites b x byte)
+  pub port-read : Is port.readOf (port.portReads b x)
+  pub find-cards : Is port.foundOf (port.findsCards b x)
+  pub activate-card : (tag base : ℕ) → Is port.activatedOf (port.activatesCard b x tag base)
+
+-- ---- the image's line
+
+abbrev pub SameText : Text → Text → Type 0
+SameText r r′ = (r .len ≡ r′ .len) × (take (r .len) (r .bytes) ≡ take (r′ .len) (r′ .bytes))
+
+-- ---- all of them
+
+pub record Nothing-else-fits : Type 0 where
+  -- card: the end is that of power-on whatever the memory holds
+  pub power-on : (words ram dir : List ℕ) → length ram ≡ 8192 → length dir ≡ 1110
+      → Only (contract.power-on words) (λ r r′. view r ram dir ≡ view r′ ram dir)
+  pub card : (c : Card) (ram dir : List ℕ) → CardCalls c ram dir
+  pub driver : (c : Card) (ram dir : List ℕ) (d : Driver) → DriverCalls c ram dir d
+  -- the part handed up: its bytes, and its place
+  pub hand-up : (look frame : RefT (List ℕ)) (n : ℕ)
+      → Only (λ (r : RefT (List ℕ)). (now r ≡ handed (now look) (now frame) n) × (ptr r ≡ area n (ptr look) (ptr frame))) (λ r r′. (now r ≡ now r′) × (ptr r ≡ ptr r′))
+  -- search
+  pub id-port : (b : Bus) (x : ℕ) → PortCalls b x
+  -- idport, one card on the port
+  pub fresh : (words : List ℕ) → Is (λ (r : IdState). r) (idFresh words)
+  pub id-sound : (s : IdState) → Is (λ (r : Bool). r) (idSound s)
+  pub id-write : (s : IdState) (x byte : ℕ) → Is (λ (r : IdState). r) (idWrite s x byte)
+  pub id-bit : (s : IdState) (x : ℕ) → Is (λ (r : ℕ). r) (idBit s x)
+  pub id-after-read : (s : IdState) (x bus : ℕ) → Is (λ (r : IdState). r) (idAfterRead s x bus)
+  -- eeprom
+  pub place-of : (w : WordOffset) → Is (λ (r : BytePlace). r .0) (image.placeOf (w .0))
+  pub byte-at : (bytes : List ℕ) (place : BytePlace) → Is (λ (r : ℕ). r) (image.byteAt bytes (place .0))
+  pub word-at : (bytes : List ℕ) (w : WordOffset) → Is (λ (r : ℕ). r) (image.wordAt bytes (w .0))
+  pub checksum : (bytes : List ℕ) → Is (λ (r : ℕ). r) (image.checksumOf bytes)
+  pub secondary : (bytes : List ℕ) → Is (λ (r : ℕ). r) (image.secondaryOf bytes)
+  pub check : (bytes : List ℕ) → Is (λ (r : Checked). r) (image.checkOf bytes)
+  -- image_line: the line as long as it is; the bytes past its length are free
+  pub line : (found : Checked) → Only (λ (r : Text). Says (lineOf found) (r .len) (r .bytes)) SameText
+  pub line-judged : (bytes : List ℕ) → Only (λ (r : Text). Says (lineOf (image.checkOf bytes)) (r .len) (r .bytes)) SameText
+  -- refusal
+  pub number : (why : Refusal) → Is (λ (r : ℕ). r) (numberOf why)

@@ -1,0 +1,4 @@
+-- What the promises that nothing else fits, and what is left free, cite.
+pub mod Agree
+pub mod Fits
+pub mod Free

@@ -1,0 +1,2 @@
+-- What the promise that the calls take the steps cites.
+pub mod Takes

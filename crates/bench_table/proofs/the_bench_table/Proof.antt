@@ -1,0 +1,10 @@
+-- `bench_table::the_bench_table` meets its contract, row by row. Assumes nothing.
+use Rattle.bench_table.proofs.Rows.{table}
+use Rattle.bench_table.proofs.the_bench_table.Statement.{statement}
+use Rattle.bench_table.proofs.the_bench_table.Tie as tie
+
+returns : tie.Need-returns
+returns c = table
+
+pub the-bench-table-spec : {M : Type 1} → statement M
+the-bench-table-spec = tie.close (tie.spec returns)

@@ -1,0 +1,2 @@
+-- What the bench table cites.
+pub mod Table

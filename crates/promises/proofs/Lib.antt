@@ -1,0 +1,1 @@
+-- Each promise cites the law that proves it.

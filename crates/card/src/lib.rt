@@ -1,9 +1,7 @@
 // The card: its public calls. Each tests the state that it is handed (refusal 1) and its arguments, refuses with card and memory as they came, or takes the step.
 ghost use mathlib.Core.Path.{_≡_};
-ghost use mathlib.Core.Bool.{true, _&&_};
 ghost use mathlib.Core.List.{List};
 ghost use Prim.Native.Nat.{ℕ};
-ghost use lib.Dec.{eqb};
 ghost use lib.ListN.{length};
 ghost use Rattle.idport.specs.Sound.{idSound};
 ghost use Rattle.queue.specs.Leave.{toldOf};

@@ -1,14 +1,22 @@
 -- The ways of a public call. Assumes nothing.
-use mathlib.Core.Path.{_≡_, refl, ap, subst⁻¹, _∙_}
-use mathlib.Core.Bool.{Bool, true, false, cond}
+use borrow.Author.Tests.{not-true, not-false}
+use mathlib.Core.Path.{_≡_, refl, sym, ap, _∙_}
+use mathlib.Core.Bool.{Bool, true, false, not}
 use mathlib.Core.List.{List, _++_}
-use Prim.Native.Nat.{ℕ, zero, suc}
-use lib.ListN.{length, drop}
+use Prim.Native.Nat.{ℕ, suc}
+use lib.ListN.{drop}
 use Rattle.queue.specs.View.{Tells}
 use Rattle.regs.specs.declared.Card.{Card}
 use Rattle.regs.specs.Adapter.{Adapter}
 use Rattle.regs.specs.View.{Stands}
-use Rattle.card.specs.Calls.{Reply, refused, value, judged, replying, Does, Call, Area}
+use Rattle.card.specs.Calls.{Reply, refused, judged, replying, Does, Call, Area}
+
+-- what the way that a test of the code took says of the definition's test
+pub fails : {b t : Bool} → b ≡ t → not b ≡ true → t ≡ false
+fails e h = sym e ∙ not-true _ h
+
+pub holds : {b t : Bool} → b ≡ t → not b ≡ false → t ≡ true
+holds e h = sym e ∙ not-false _ h
 
 module _ (s ok : Bool) (k : ℕ) (w : Reply) (c : Card) (ram dir : List ℕ) (a : Adapter) where
   -- the state is unsound

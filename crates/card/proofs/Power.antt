@@ -7,7 +7,6 @@ use native.Mathlib.Omega.{arith}
 use lib.ListN.{length}
 use Rattle.receive.specs.Early.{earlyFlag, toldFlag}
 use Rattle.outcomes.specs.Outcome.{due}
-use Rattle.queue.specs.Queue.{free}
 use Rattle.regs.specs.declared.Card.{Card}
 use Rattle.regs.specs.Adapter.{Adapter}
 use Rattle.regs.specs.Status.{interrupting}

@@ -1,4 +1,7 @@
 // Long random runs of the public card calls, sensible and senseless. It prints how many calls were done and how many were refused, and a sum over all values read.
+use card::AfterCall;
+use card::AfterRead;
+use card::AfterSuccess;
 use card::Done;
 use card::Read;
 use card::Told;
@@ -63,6 +66,34 @@ fn told(t: Tally, a: Told) -> Tally {
     }
 }
 
+// The bench after a call that answers a value, that is done, or that tells the wire.
+fn read(r: AfterRead, t: Tally) -> Bench {
+    let c = r.card;
+    let a = r.answer;
+    Bench {
+        card: c,
+        tally: seen(t, a),
+    }
+}
+
+fn called(r: AfterCall, t: Tally) -> Bench {
+    let c = r.card;
+    let a = r.answer;
+    Bench {
+        card: c,
+        tally: finished(t, a),
+    }
+}
+
+fn sent(r: AfterSuccess, t: Tally) -> Bench {
+    let c = r.card;
+    let a = r.answer;
+    Bench {
+        card: c,
+        tally: told(t, a),
+    }
+}
+
 // A host's access.
 fn access(
     ram: &mut [u8; 8192],
@@ -75,39 +106,15 @@ fn access(
     let c = b.card;
     let t = b.tally;
     if kind == 0 {
-        let r = card::read_word(ram, dir, c, o);
-        let d = r.card;
-        let a = r.answer;
-        return Bench {
-            card: d,
-            tally: seen(t, a),
-        };
+        return read(card::read_word(ram, dir, c, o), t);
     }
     if kind == 1 {
-        let r = card::read_byte(ram, dir, c, o);
-        let d = r.card;
-        let a = r.answer;
-        return Bench {
-            card: d,
-            tally: seen(t, a),
-        };
+        return read(card::read_byte(ram, dir, c, o), t);
     }
     if kind == 2 {
-        let r = card::write_word(ram, dir, c, o, v);
-        let d = r.card;
-        let a = r.answer;
-        return Bench {
-            card: d,
-            tally: finished(t, a),
-        };
+        return called(card::write_word(ram, dir, c, o, v), t);
     }
-    let r = card::write_byte(ram, dir, c, o, (v % 256) as u8);
-    let d = r.card;
-    let a = r.answer;
-    Bench {
-        card: d,
-        tally: finished(t, a),
-    }
+    called(card::write_byte(ram, dir, c, o, (v % 256) as u8), t)
 }
 
 // An event of the wire, or a send outcome.
@@ -122,48 +129,18 @@ fn event(
     let c = b.card;
     let t = b.tally;
     if kind == 0 {
-        let r = card::wire_start(ram, dir, c, [255; 8]);
-        let d = r.card;
-        let a = r.answer;
-        return Bench {
-            card: d,
-            tally: finished(t, a),
-        };
+        return called(card::wire_start(ram, dir, c, [255; 8]), t);
     }
     if kind == 1 {
-        let r = card::wire_end(ram, dir, c, v % 8 != 0, v % 16 != 1);
-        let d = r.card;
-        let a = r.answer;
-        return Bench {
-            card: d,
-            tally: finished(t, a),
-        };
+        return called(card::wire_end(ram, dir, c, v % 8 != 0, v % 16 != 1), t);
     }
     if kind == 2 {
-        let r = card::success(ram, dir, c, out);
-        let d = r.card;
-        let a = r.answer;
-        return Bench {
-            card: d,
-            tally: told(t, a),
-        };
+        return sent(card::success(ram, dir, c, out), t);
     }
     if kind == 3 {
-        let r = card::collisions(ram, dir, c);
-        let d = r.card;
-        let a = r.answer;
-        return Bench {
-            card: d,
-            tally: finished(t, a),
-        };
+        return called(card::collisions(ram, dir, c), t);
     }
-    let r = card::wire_byte(ram, dir, c, (v % 256) as u8);
-    let d = r.card;
-    let a = r.answer;
-    Bench {
-        card: d,
-        tally: finished(t, a),
-    }
+    called(card::wire_byte(ram, dir, c, (v % 256) as u8), t)
 }
 
 // One random call; offsets reach past 0Fh, and commands are frequent.
@@ -198,13 +175,7 @@ fn awaken(ram: &[u8; 8192], dir: &[u16; 1110], b: Bench) -> Bench {
     let c = b.card;
     let mut id = c.id;
     id.active = true;
-    let r = card::seat(ram, dir, c, id);
-    let d = r.card;
-    let a = r.answer;
-    Bench {
-        card: d,
-        tally: finished(b.tally, a),
-    }
+    called(card::seat(ram, dir, c, id), b.tally)
 }
 
 fn main() {

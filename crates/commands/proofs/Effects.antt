@@ -1,13 +1,11 @@
 -- What the commands do that change more than one group, or empty a side. Assumes nothing.
-use mathlib.Core.Path.{_≡_, refl, ap, subst, subst⁻¹, _∙_}
-use mathlib.Core.Bool.{Bool, false, not, _&&_}
-use mathlib.Core.List.{List}
+use mathlib.Core.Path.{_≡_, ap, subst⁻¹}
+use mathlib.Core.Bool.{not, _&&_}
 use Prim.Native.Nat.{ℕ, _%_}
 use Rattle.bits.specs.Bits.{has}
 use Rattle.store.specs.Store.{frames}
 use Rattle.receive.specs.Reading as reading
-use Rattle.receive.specs.Reading.{earlyDefault, deafened}
-use Rattle.receive.specs.Frame.{Rx}
+use Rattle.receive.specs.Reading.{deafened}
 use Rattle.queue.specs.Queue.{empty}
 use Rattle.queue.specs.View.{partOf}
 use Rattle.outcomes.specs.declared.Outcomes.{Outcomes}
@@ -15,13 +13,12 @@ use Rattle.outcomes.specs.Reports.{Reports}
 use Rattle.outcomes.specs.Outcome as outcome
 use Rattle.outcomes.specs.View.{reportsOf, Reported}
 use Rattle.transmit.specs.Tx as tx
-use Rattle.transmit.specs.Tx.{Tx}
+use Rattle.transmit.specs.Tx.{withReports}
 use Rattle.regs.specs.declared.Card.{Card}
-use Rattle.regs.specs.Adapter.{Adapter}
-use Rattle.regs.specs.Update.{withSelect, withRx, withTx, withLines, selectFilter}
-use Rattle.regs.specs.Power.{powerOn, reset, quietRx}
+use Rattle.regs.specs.Update.{withSelect, withRx, withTx, selectFilter}
+use Rattle.regs.specs.Power.{reset, quietRx}
 use Rattle.regs.specs.Groups.{cardSelect, cardReceive, cardTransmit, cardOutcomes}
-use Rattle.regs.specs.View.{view, Held, Is, Blank, Does}
+use Rattle.regs.specs.View.{view, Is, Does}
 use Rattle.regs.proofs.Blank.{emptied, frames-packed, packets-packed}
 use Rattle.commands.specs.Command.{rxReset, txReset, acknowledge}
 
@@ -90,31 +87,6 @@ module _ (c : Card) where
   unfolding view acknowledge
   acknowledge-does x o d e p ram dir h = subst⁻¹ (λ (k : Card). Is (answered x k) ram dir (acknowledge x (view c ram dir))) e
       (record {
-        shows = ap (λ (r : Reports). acknowledged r) (p .tells);
+        shows = ap (λ (r : Reports). withTx (withReports r (view c ram dir .tx)) (acknowledge x (view c ram dir))) (p .tells);
         held = record { ram-long = h .ram-long; dir-long = h .dir-long; frames = h .frames; packets = h .packets; statuses = p .stacked };
       })
-    where
-      acknowledged : Reports → Adapter
-      acknowledged r =
-          record {
-            id = c .id;
-            select = c .select;
-            lines = record { latch = not (has 1 x) && c .lines .latch; requested = not (has 64 x) && c .lines .requested; low = c .lines .low };
-            config = c .config;
-            prom = c .prom;
-            rx =
-                record {
-                  receiver =
-                      record {
-                        on = c .receive .receiver .on;
-                        failed = c .receive .receiver .failed;
-                        early = not (has 32 x) && c .receive .receiver .early;
-                        told = c .receive .receiver .told;
-                        threshold = c .receive .receiver .threshold;
-                        read = c .receive .receiver .read;
-                        wire = c .receive .receiver .wire;
-                      };
-                  frames = view c ram dir .rx .frames;
-                };
-            tx = record { queue = view c ram dir .tx .queue; reports = r };
-          }

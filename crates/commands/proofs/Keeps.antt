@@ -1,16 +1,14 @@
 -- Every effect on a sound adapter keeps what settle needs. Assumes nothing.
-use mathlib.Core.Path.{_≡_, refl, sym, ap, _∙_}
-use mathlib.Core.Bool.{Bool, true, false, cond, not, _&&_, _||_}
-use mathlib.Core.List.{List, []}
-use Prim.Native.Nat.{ℕ, zero, suc, _+_, _*_, _-_, _/_, _%_, _≤_, _<_}
+use mathlib.Core.Path.{_≡_, refl}
+use mathlib.Core.Bool.{Bool, true, false, not, _&&_}
+use mathlib.Core.List.{List}
+use Prim.Native.Nat.{ℕ, zero, _/_, _%_, _≤_, _<_}
 use native.Mathlib.Omega.{arith}
-use borrow.Author.Tests.{leb-true, le-leb, eq-eqb}
-use lib.Dec.{ltb, leb, eqb}
-use lib.ListN.{length}
+use borrow.Author.Tests.{le-leb, eq-eqb}
+use lib.Dec.{leb, eqb}
 use Rattle.bits.specs.Bits.{has}
 use Rattle.laws.proofs.Tests.{both, join, of-cond}
 use Rattle.idport.specs.declared.IdState.{IdState}
-use Rattle.idport.specs.Card.{idFresh}
 use Rattle.idport.specs.Sound.{idSound}
 use Rattle.receive.specs.Frame.{Rx}
 use Rattle.receive.specs.Sound as rxs
@@ -26,14 +24,11 @@ use Rattle.transmit.specs.Tx as txs
 use Rattle.transmit.specs.Tx.{Tx}
 use Rattle.transmit.proofs.Keeps as txk
 use Rattle.regs.specs.declared.Select.{Select}
-use Rattle.regs.specs.declared.Lines.{Lines}
-use Rattle.regs.specs.declared.Config.{Config}
-use Rattle.regs.specs.declared.Prom.{Prom}
 use Rattle.regs.specs.Adapter.{Adapter}
-use Rattle.regs.specs.Update.{withId, withSelect, withLines, withConfig, withProm, withRx, withTx, selectWindow, selectMask, selectZero, selectFilter, idAddress, idShift}
+use Rattle.regs.specs.Update.{withId, withSelect, withRx, withTx, selectWindow, selectMask, selectZero, selectFilter}
 use Rattle.regs.specs.Room.{rxRoom, txRoom}
 use Rattle.regs.specs.Power.{powerOn, reset, quietRx, quietTx}
-use Rattle.regs.specs.Sound.{isMask, selectSound, registersSound, kept, sound}
+use Rattle.regs.specs.Sound.{isMask, selectSound, kept, sound}
 use Rattle.regs.proofs.Sides.{rx-of, tx-of, registers-of, kept-by, kept-of, rx-kept, tx-kept, registers-kept}
 use Rattle.commands.specs.Command.{reported, receiving, rxReset, txReset, acknowledge, mask, act, discard, command, commanded}
 

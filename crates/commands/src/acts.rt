@@ -1,7 +1,7 @@
 // What each command does to the card's registers.
 ghost use mathlib.Core.Path.{_≡_};
 ghost use mathlib.Core.Bool.{true, false};
-ghost use Prim.Native.Nat.{_%_, _≤_, _<_};
+ghost use Prim.Native.Nat.{_%_};
 ghost use Rattle.receive.specs.Update.{withOn, withThreshold};
 ghost use Rattle.outcomes.specs.View.{Stacked};
 ghost use Rattle.regs.specs.Update.{selectWindow, selectMask, selectZero, selectFilter, linesRequested};

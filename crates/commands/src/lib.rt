@@ -1,5 +1,4 @@
 // The commands of the Command register.
-ghost use mathlib.Core.Path.{_≡_};
 ghost use mathlib.Core.Bool.{true};
 ghost use Rattle.outcomes.specs.View.{Stacked};
 ghost use Rattle.regs.specs.View.{view, Sound, Is, Does};

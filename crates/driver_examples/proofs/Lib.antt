@@ -1,6 +1,5 @@
--- Worked examples of the driver.
-pub mod Ready
-pub mod Service
+-- The worked examples, computed.
 pub mod Send
-pub mod Cost
+pub mod Service
 pub mod Long
+pub mod Cost

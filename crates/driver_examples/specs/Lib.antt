@@ -1,1 +1,4 @@
--- No definitions of its own.
+-- Worked examples of the driver.
+pub mod Ready
+pub mod Send
+pub mod Service

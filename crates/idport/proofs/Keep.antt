@@ -6,6 +6,7 @@ use mathlib.Core.Bool.{Bool, true, false, cond, not, _&&_, _||_, false≢true}
 use native.Mathlib.Omega.{arith}
 use lib.Dec.{ltb, eqb}
 use borrow.Author.Tests.{leb-true, le-leb, eqb-true, eqb-false, eq-eqb, ltb-true}
+use Rattle.laws.proofs.Tests.{both}
 use Rattle.idport.specs.declared.IdState.{IdState}
 use Rattle.idport.specs.Sequence.{idByte}
 use Rattle.idport.specs.Card.{tagged, loaded, expected, idWait, idCommand, idWrite, idDrives, idBit, idAfterRead}
@@ -26,10 +27,6 @@ record Good (s : IdState) : Type 0 where
   labelled : s .tag ≤ 7
   obeys : s .command ≡ true → (s .port ≤ 15) × (s .at ≡ 0)
   portless : s .port ≡ 16 → s .at ≡ 0
-
-both : (a b : Bool) → a && b ≡ true → (a ≡ true) × (b ≡ true)
-both true b e = (refl, e)
-both false b e = absurd (false≢true e)
 
 both-true : {a b : Bool} → a ≡ true → b ≡ true → a && b ≡ true
 both-true e f = rw (e, f)

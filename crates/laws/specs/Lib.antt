@@ -1,1 +1,2 @@
--- Nothing is cited by a contract.
+-- What the laws speak of.
+pub mod UpTo

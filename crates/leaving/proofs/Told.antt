@@ -12,12 +12,13 @@ use lib.Seq.{take-take, take-length}
 use Rattle.store.specs.Store as store
 use Rattle.store.specs.Store.{frames, begun, lenOf, part}
 use Rattle.store.proofs.Laws.{part-cons}
-use Rattle.queue.specs.Leave.{has, others, toldOf, oldestWanted}
+use Rattle.bits.specs.Bits.{has}
+use Rattle.queue.specs.Leave.{others, toldOf, oldestWanted}
 use Rattle.queue.specs.Write.{sized}
 use Rattle.queue.specs.Sound.{allSized}
 use Rattle.queue.specs.View.{txArea, packetsOf, Holds, Tells}
 use Rattle.queue.specs.declared.Fifo.{Fifo}
-use Rattle.queue.proofs.Logic.{both}
+use Rattle.laws.proofs.Tests.{both}
 use Rattle.queue.proofs.Parts.{part-length}
 use Rattle.queue.proofs.Facts.{sizes}
 use Rattle.leaving.proofs.Leave.{oldest-room}

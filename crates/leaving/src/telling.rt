@@ -5,7 +5,7 @@ ghost use mathlib.Core.List.{_++_};
 ghost use Prim.Native.Nat.{_+_, _-_, _/_, _%_, _≤_};
 ghost use lib.ListN.{length, drop, getD, replicate};
 ghost use Rattle.store.specs.Store.{part};
-ghost use Rattle.queue.specs.Leave.{has};
+ghost use Rattle.bits.specs.Bits.{has};
 
 // A byte of a packet's data, or 0 past its end.
 fn packet_byte(ram: &[u8], base: usize, len: usize, i: usize) -> u8

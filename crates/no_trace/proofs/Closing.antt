@@ -1,29 +1,27 @@
 -- The end of a damaged frame, and the service call that closes its stretch. Assumes nothing.
-use mathlib.Core.Path.{_≡_, refl, ap, _∙_, subst, subst⁻¹}
-use mathlib.Core.Bool.{Bool, true, false, cond, not, _||_, false≢true}
-use mathlib.Core.List.{List, [], _∷_}
+use mathlib.Core.Path.{_≡_, refl, ap, _∙_, subst⁻¹}
+use mathlib.Core.Bool.{Bool, true, false, cond, false≢true}
+use mathlib.Core.List.{List}
 use Prim.Native.Nat.{ℕ, zero, suc, _≤_}
 use native.Mathlib.Omega.{arith}
 use lib.ListN.{length}
 use lib.Dec.{ltb}
 use Rattle.store.specs.Store.{atNewest}
-use Rattle.receive.specs.Frame.{State, coming, whole, damaged, Frame, overran}
+use Rattle.receive.specs.Frame.{State, whole, damaged, overran}
 use Rattle.receive.specs.Wire as wire
 use Rattle.receive.specs.Wire.{ending}
 use Rattle.regs.specs.Adapter.{Adapter}
 use Rattle.regs.specs.Settle.{settle}
 use Rattle.steps.specs.Event as card
-use Rattle.steps.specs.Access.{ReadWord, WriteWord}
 use Rattle.talk.specs.declared.Driver.{Driver}
-use Rattle.talk.specs.Talk.{Ran, run, extended}
-use Rattle.items.specs.Items.{Serving}
+use Rattle.talk.specs.Talk.{run}
 use Rattle.items.specs.Areas.{inLook, inFrame}
 use Rattle.service.specs.Service.{lookTalk}
 use Rattle.driver.specs.Calls.{serviceCall}
 use Rattle.runs.specs.Run.{Bench, Areas, full, End, Service, serves, next, said}
 use Rattle.no_trace.specs.Stretch.{isDamaged, newestDamaged, givesCode}
 use Rattle.no_trace.specs.NoTrace.{Closing, ignored, dropped}
-use Rattle.no_trace.proofs.Shapes.{side, shape, frame, calm, deaf, hearing, ended, Settled, settle-empty, settle-damaged, acked, Idles, calm-idle, ended-idle}
+use Rattle.no_trace.proofs.Shapes.{side, shape, frame, calm, deaf, hearing, ended, Settled, settle-empty, settle-damaged, calm-idle, ended-idle}
 use Rattle.no_trace.proofs.Noise.{ready, bench, Beside, deafly, hearingly}
 
 -- what the closing call answers and leaves, with the frame and without

@@ -1,7 +1,5 @@
 -- The worked examples, by computing. Assumes nothing.
-use mathlib.Core.Path.{_≡_, refl}
-use mathlib.Core.List.{[], _∷_}
-use Prim.Native.Nat.{ℕ}
+use mathlib.Core.Path.{refl}
 use native.Mathlib.Omega.{arith}
 use Rattle.receive.specs.Frame.{isComing, overran, room}
 use Rattle.receive.specs.Wire as wire

@@ -1,33 +1,30 @@
 -- While a damaged frame comes: the run with the frame beside the run without, step by step. Assumes nothing.
-use mathlib.Core.Path.{_≡_, refl, ap, ap₂, _∙_, subst, subst⁻¹}
-use mathlib.Core.Bool.{Bool, true, false, cond, not, _&&_, _||_, false≢true}
+use mathlib.Core.Path.{_≡_, refl, ap, ap₂, _∙_, subst⁻¹}
+use mathlib.Core.Bool.{Bool, true, false, cond, not, _&&_, _||_}
 use mathlib.Core.List.{List, [], _∷_, _++_}
-use Prim.Native.Nat.{ℕ, zero, suc, _≤_}
-use native.Mathlib.Omega.{arith}
+use Prim.Native.Nat.{ℕ, zero, suc}
 use lib.ListN.{length}
-use lib.Dec.{ltb, leb, eqb}
+use lib.Dec.{leb}
 use Rattle.refusal.specs.declared.Refusal.the-variants.{AreaShort}
 use Rattle.store.specs.Store.{atNewest}
-use Rattle.receive.specs.Frame.{State, coming, whole, damaged, Frame, Rx, overran}
+use Rattle.receive.specs.Frame.{coming, overran}
 use Rattle.receive.specs.Wire as wire
-use Rattle.receive.specs.Wire.{begins, marked, ending, takes, fits, fits8}
+use Rattle.receive.specs.Wire.{begins, marked, fits, fits8}
 use Rattle.regs.specs.Adapter.{Adapter}
 use Rattle.regs.specs.Room.{rxRoom}
 use Rattle.regs.specs.Update.{withRx}
 use Rattle.regs.specs.Settle.{settle}
 use Rattle.steps.specs.Event as card
 use Rattle.talk.specs.declared.Driver.{Driver}
-use Rattle.talk.specs.Talk.{Talk, done, Ran, run, extended}
-use Rattle.items.specs.declared.Answer.the-variants.{Idle, Refused}
-use Rattle.items.specs.Items.{Serving, plain, short}
-use Rattle.items.specs.Areas.{inLook, inFrame}
+use Rattle.talk.specs.Talk.{done, Ran, run}
+use Rattle.items.specs.declared.Answer.the-variants.{Refused}
+use Rattle.items.specs.Items.{Serving, plain}
 use Rattle.service.specs.Service.{lookTalk}
 use Rattle.driver.specs.Calls.{serviceCall}
-use Rattle.driver.specs.Paper.{idle}
-use Rattle.runs.specs.Run.{Bench, Areas, full, Event, Start, Byte, End, Service, Said, served, serves, serving, next, said, after, sayings}
-use Rattle.no_trace.specs.Stretch.{During, byte, call, heard, calls, isDamaged, newestDamaged, givesCode}
-use Rattle.no_trace.specs.NoTrace.{handedUp, Closing, ignored, dropped}
-use Rattle.no_trace.proofs.Shapes.{side, shape, frame, calm, deaf, hearing, ended, Settled, settle-empty, settle-damaged, settle-coming, reached, Quiet, quiet-calm, quiet-deaf, quiet-hearing, settledHearing, acked, ack-calm, ack-deaf, ack-hearing, acked-settled, Idles, look-short, look-idle, calm-idle, ended-idle}
+use Rattle.runs.specs.Run.{Bench, Areas, full, Start, Byte, End, Said, serves, serving, next, said, after, sayings}
+use Rattle.no_trace.specs.Stretch.{During, byte, call, heard, calls}
+use Rattle.no_trace.specs.NoTrace.{handedUp}
+use Rattle.no_trace.proofs.Shapes.{side, frame, calm, deaf, hearing, Settled, settle-empty, settle-coming, reached, quiet-calm, quiet-deaf, quiet-hearing, settledHearing, acked, ack-deaf, ack-hearing, acked-settled, look-short, look-idle, calm-idle}
 
 -- an open driver
 abbrev pub ready : Driver → Driver

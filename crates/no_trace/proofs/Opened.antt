@@ -1,38 +1,34 @@
 -- What open sets stays so under the driver's calls, the wire and the outcomes; and what an idle answer tells. Assumes nothing.
-use mathlib.Core.Path.{_≡_, refl, ap, sym, _∙_, subst, subst⁻¹}
-use mathlib.Core.Bool.{Bool, true, false, cond, not, _&&_, _||_}
+use mathlib.Core.Path.{_≡_, refl, ap, sym, _∙_, subst⁻¹}
+use mathlib.Core.Bool.{Bool, true, false, not, _&&_, _||_}
 use mathlib.Core.List.{List, [], _∷_}
-use Prim.Native.Nat.{ℕ, zero, suc, _+_, _-_, _/_, _%_}
-use native.Mathlib.Omega.{arith}
-use lib.ListN.{length, take}
+use Prim.Native.Nat.{ℕ, zero, suc, _+_, _/_, _%_}
+use lib.ListN.{length}
 use lib.Dec.{ltb, eqb}
 use Rattle.laws.proofs.Tests.{of-cond, by-test, never}
 use Rattle.idport.specs.declared.IdState.{IdState}
-use Rattle.refusal.specs.declared.Refusal.the-variants.{NeverOpened, AreaShort}
 use Rattle.store.specs.Store.{round4}
-use Rattle.receive.specs.Frame.{Rx, Frame}
-use Rattle.receive.specs.Reading as reading
-use Rattle.transmit.specs.Tx.{Tx, ready}
+use Rattle.transmit.specs.Tx.{ready}
 use Rattle.regs.specs.declared.Select.{Select}
 use Rattle.regs.specs.Adapter.{Adapter}
 use Rattle.regs.specs.Settle.{settle}
 use Rattle.commands.specs.Command.{acknowledge, act, command, commanded}
-use Rattle.window_read.specs.Read.{wordAt, afterWord}
-use Rattle.window_write.specs.Write.{coversLow, coversHigh, write, write1, write2, writeWord, writeByte}
-use Rattle.steps.specs.Access.{Access, ReadWord, ReadByte, WriteWord, WriteByte, Step, step, effect, ones, access}
+use Rattle.window_read.specs.Read.{afterWord}
+use Rattle.window_write.specs.Write.{coversHigh, write, write1, write2, writeWord, writeByte}
+use Rattle.steps.specs.Access.{Access, ReadWord, ReadByte, WriteWord, WriteByte, Step, effect, ones, access}
 use Rattle.steps.specs.Event as card
 use Rattle.steps.proofs.Ends.{asleep, awake}
 use Rattle.card.specs.Calls.{onWire, offWire}
 use Rattle.talk.specs.declared.Driver.{Driver}
-use Rattle.talk.specs.Driver.{oldestTicket, reporting, withError}
+use Rattle.talk.specs.Driver.{withError}
 use Rattle.talk.specs.Registers.{unfit, txComplete, rxComplete}
-use Rattle.talk.specs.Talk.{Talk, done, ask, Ran, run, readWords, writeWords}
-use Rattle.opening.specs.Open.{Opening, openTalk}
+use Rattle.talk.specs.Talk.{Talk, done, ask, run, readWords, writeWords}
+use Rattle.opening.specs.Open.{openTalk}
 use Rattle.sending.specs.Send.{Sending, outside, packetWords, sendTalk}
 use Rattle.items.specs.Items.{Serving, isError, seen, reports, reportTalk, idleTalk, fetchTalk, wordsIn}
 use Rattle.service.specs.Service.{bad, lookTalk, receiveTalk, dropTalk}
 use Rattle.driver.specs.Calls.{openCall, sendCall, serviceCall}
-use Rattle.runs.specs.Run.{Bench, Areas, full, Event, Start, Byte, End, Sent, Collided, Open, Send, Service, opens, sends, serves, wire, taken, next, after}
+use Rattle.runs.specs.Run.{Bench, full, Event, Start, Byte, End, Sent, Collided, Open, Send, Service, opens, sends, serves, wire, taken, next, after}
 use Rattle.no_trace.proofs.Status.{shown}
 
 -- An active card has the window and the masks that open set.

@@ -1,36 +1,26 @@
 -- What an idle answer tells: the card is active, no failure stands, and no status is there. Assumes nothing.
-use mathlib.Core.Path.{_≡_, refl, ap, sym, _∙_, subst, subst⁻¹}
-use mathlib.Core.Bool.{Bool, true, false, cond, not, _&&_, _||_}
+use mathlib.Core.Path.{_≡_, refl, ap, sym, _∙_, subst⁻¹}
+use mathlib.Core.Bool.{Bool, true, false, not, _&&_, _||_}
 use mathlib.Core.List.{List, [], _∷_}
-use Prim.Native.Nat.{ℕ, zero, suc, _+_, _-_, _/_, _%_, _≤_}
-use native.Mathlib.Omega.{arith}
-use lib.ListN.{length, take}
+use Prim.Native.Nat.{ℕ, zero, suc, _+_, _/_, _%_}
 use lib.Dec.{ltb, eqb}
 use Rattle.laws.proofs.Tests.{of-cond, of-test, by-test, never}
 use Rattle.refusal.specs.Number.{numberOf}
-use Rattle.refusal.specs.declared.Refusal.the-variants.{CardUnfit, BudgetShort, NeverOpened, AreaShort}
-use Rattle.receive.specs.Reading as reading
-use Rattle.receive.specs.Reading.{readable}
-use Rattle.receive.specs.Early.{earlyFlag, toldFlag}
-use Rattle.receive.proofs.Facts.{sound-told}
-use Rattle.queue.specs.Queue as queue
+use Rattle.refusal.specs.declared.Refusal.the-variants.{CardUnfit, NeverOpened, AreaShort}
 use Rattle.outcomes.specs.Outcome.{some}
 use Rattle.regs.specs.declared.Select.{Select}
 use Rattle.regs.specs.Adapter.{Adapter}
-use Rattle.regs.specs.Room.{rxRoom}
-use Rattle.regs.specs.Status.{flags, failure, statusOf, interrupting}
+use Rattle.regs.specs.Status.{flags, failure, statusOf}
 use Rattle.regs.specs.Settle.{settle}
-use Rattle.regs.specs.Sound.{sound}
-use Rattle.regs.proofs.Sides.{rx-of, settle-stays}
 use Rattle.commands.specs.Command.{acknowledge, act, command, commanded}
 use Rattle.window_read.specs.Read.{wordAt, afterWord}
 use Rattle.window_write.specs.Write.{writeWord}
-use Rattle.steps.specs.Access.{Access, ReadWord, WriteWord, Step, step, effect, access}
+use Rattle.steps.specs.Access.{Access, ReadWord, WriteWord, Step, effect, access}
 use Rattle.steps.proofs.Ends.{asleep, awake}
 use Rattle.talk.specs.declared.Driver.{Driver}
-use Rattle.talk.specs.Driver.{oldestTicket, withError}
-use Rattle.talk.specs.Registers.{unfit, txComplete, rxComplete, rxDiscard}
-use Rattle.talk.specs.Talk.{Talk, done, ask, Ran, run, readWords, order}
+use Rattle.talk.specs.Driver.{withError}
+use Rattle.talk.specs.Registers.{unfit, txComplete, rxComplete}
+use Rattle.talk.specs.Talk.{Talk, done, ask, run, readWords}
 use Rattle.items.specs.declared.Answer.{Answer}
 use Rattle.items.specs.declared.Answer.the-variants as answer
 use Rattle.items.specs.declared.Answer.the-variants.{Idle, Refused}
@@ -38,7 +28,7 @@ use Rattle.items.specs.Items.{Serving, plain, short, isError, seen, reports, re
 use Rattle.service.specs.Service.{bad, lookTalk, receiveTalk, dropTalk}
 use Rattle.driver.specs.Calls.{serviceCall}
 use Rattle.driver.specs.Paper.{Paper, servicePaper}
-use Rattle.runs.specs.Run.{Bench, Areas, full, Event, Service, serves, serving, next, said}
+use Rattle.runs.specs.Run.{Bench, Areas, full, Service, serves, next, said}
 use Rattle.no_trace.specs.Stretch.{isIdle, answersIdle}
 use Rattle.no_trace.proofs.Status.{shown, seen-failed, seen-completed}
 use Rattle.no_trace.proofs.Opened.{Set, fine-status, fine-rx, fine-discard}

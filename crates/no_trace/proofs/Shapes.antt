@@ -1,15 +1,14 @@
 -- An open card at rest, and the same while a frame comes, by their shapes: all but the receive side is equal. Assumes nothing.
-use mathlib.Core.Path.{_≡_, refl, ap, ap₂, _∙_}
-use mathlib.Core.Bool.{Bool, true, false, cond, not, _&&_, _||_}
-use mathlib.Core.List.{List, [], _∷_, _++_}
+use mathlib.Core.Path.{_≡_, refl, ap, _∙_}
+use mathlib.Core.Bool.{Bool, true, false, not, _&&_, _||_}
+use mathlib.Core.List.{List, [], _∷_}
 use Prim.Native.Nat.{ℕ, suc, _≤_, _+_, _*_, _/_, _%_}
 use native.Mathlib.Omega.{arith}
 use borrow.Author.Tests.{eq-eqb}
 use lib.ListN.{length}
-use lib.Dec.{leb, ltb, eqb}
-use Rattle.bits.specs.Bits.{has}
+use lib.Dec.{leb}
 use Rattle.idport.specs.declared.IdState.{IdState}
-use Rattle.receive.specs.Frame.{State, coming, whole, damaged, Frame, Rx, isComing}
+use Rattle.receive.specs.Frame.{State, coming, damaged, Frame, Rx, isComing}
 use Rattle.receive.specs.Early.{earlyFlag, toldFlag}
 use Rattle.receive.specs.Reading as reading
 use Rattle.receive.specs.Reading.{rxStatus, marks, unread, complete, withoutOldest}
@@ -23,7 +22,7 @@ use Rattle.regs.specs.Settle.{settle}
 use Rattle.commands.specs.Command.{acknowledge, act, command, commanded}
 use Rattle.window_read.specs.Read.{window1, wordAt, afterWord}
 use Rattle.window_write.specs.Write.{writeWord}
-use Rattle.steps.specs.Access.{ReadWord, WriteWord, Step, step, effect, access}
+use Rattle.steps.specs.Access.{ReadWord, WriteWord, step, effect, access}
 use Rattle.talk.specs.declared.Driver.{Driver}
 use Rattle.talk.specs.Registers.{unfit, txComplete, rxComplete}
 use Rattle.talk.specs.Talk.{Ran, run, extended}

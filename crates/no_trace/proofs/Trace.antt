@@ -1,15 +1,13 @@
 -- Damaged frames leave no trace: one stretch, then any number. Assumes nothing.
-use mathlib.Core.Path.{_≡_, refl, ap, ap₂, sym, _∙_, subst, subst⁻¹}
-use mathlib.Core.Bool.{Bool, true, false, cond, not, _||_}
+use mathlib.Core.Path.{_≡_, refl, ap, sym, _∙_, subst, subst⁻¹}
+use mathlib.Core.Bool.{Bool, true, false, cond, _||_}
 use mathlib.Core.List.{List, [], _∷_, _++_, append-nil}
 use Prim.Native.Nat.{ℕ, _≤_}
 use native.Mathlib.Omega.{arith}
-use lib.ListN.{length}
 use Rattle.laws.proofs.Tests.{never}
 use Rattle.receive.specs.Reading.{readable}
 use Rattle.receive.specs.Early.{earlyFlag, toldFlag}
 use Rattle.receive.proofs.Facts.{sound-told}
-use Rattle.regs.specs.declared.Select.{Select}
 use Rattle.regs.specs.Adapter.{Adapter}
 use Rattle.regs.specs.Room.{rxRoom}
 use Rattle.regs.specs.Settle.{settle}
@@ -19,16 +17,15 @@ use Rattle.queue.specs.Leave.{toldOf}
 use Rattle.transmit.specs.Tx.{ready as transmits}
 use Rattle.card.specs.Calls.{onWire, offWire}
 use Rattle.talk.specs.declared.Driver.{Driver}
-use Rattle.runs.specs.Run.{Bench, soundBench, Areas, full, Event, Start, Byte, End, Sent, Collided, Open, Send, Service, Earlier, Said, told, refused, wire, refusing, next, said, after, sayings, since}
+use Rattle.runs.specs.Run.{Bench, soundBench, full, Event, Start, Byte, End, Sent, Collided, Open, Send, Service, Said, told, refused, wire, refusing, next, said, after, sayings, since}
 use Rattle.runs.proofs.Kept.{adapter-of, next-sound, after-sound, since-sound}
 use Rattle.runs.proofs.Append.{after-append, sayings-append}
-use Rattle.no_trace.specs.Stretch.{answersIdle, AtRest, heard, calls, givesCode, Stretch, begun, whole-frame, closing, quiet, Damaged, Part, event, stretch, withFrames, withoutFrames, AllDamaged}
-use Rattle.no_trace.specs.NoTrace.{handedUp, Closing, SameAnswers, NoTrace, Damaged-frames-leave-no-trace}
-use Rattle.no_trace.proofs.Status.{shown}
+use Rattle.no_trace.specs.Stretch.{answersIdle, heard, calls, givesCode, Stretch, begun, whole-frame, closing, quiet, Damaged, Part, event, stretch, withFrames, withoutFrames, AllDamaged}
+use Rattle.no_trace.specs.NoTrace.{handedUp, SameAnswers, Damaged-frames-leave-no-trace}
 use Rattle.no_trace.proofs.Shapes.{calm, Settled}
-use Rattle.no_trace.proofs.Noise.{ready, bench, Beside, start-beside, end-silent, AllBeside, all-beside}
+use Rattle.no_trace.proofs.Noise.{bench, start-beside, end-silent, all-beside}
 use Rattle.no_trace.proofs.Closing.{Closes, closes-after}
-use Rattle.no_trace.proofs.Opened.{Set, Opened, opens-set, opens-driver, keeps-open, keeps-all}
+use Rattle.no_trace.proofs.Opened.{Opened, opens-set, opens-driver, keeps-open, keeps-all}
 use Rattle.no_trace.proofs.Rest.{Calm, served-calm}
 
 -- ---- an open bench at rest, by its shape

@@ -1,15 +1,15 @@
 -- Worked examples of demand 3, and why its premises are there. Assumes nothing.
 use mathlib.Core.Path.{_≡_}
-use mathlib.Core.Bool.{Bool, true, false}
+use mathlib.Core.Bool.{true, false}
 use mathlib.Core.List.{List, [], _∷_, _++_, map}
 use Prim.Native.Nat.{ℕ}
-use lib.ListN.{length, replicate}
+use lib.ListN.{replicate}
 use Rattle.idport.specs.Card.{activated}
 use Rattle.regs.specs.Update.{withId}
 use Rattle.regs.specs.Power.{powerOn}
 use Rattle.talk.specs.Driver.{neverOpened}
 use Rattle.driver.specs.Paper.{Paper, ticket, report, idle, short}
-use Rattle.runs.specs.Run.{Bench, soundBench, Areas, Event, Open, Send, Sent, Service, Said, refused, told, answered, served, next, after, sayings}
+use Rattle.runs.specs.Run.{Bench, soundBench, Areas, Open, Send, Sent, Service, Said, refused, told, answered, served, next, sayings}
 use Rattle.no_trace.specs.Stretch.{During, byte, call, Stretch, Part, event, stretch, withFrames, withoutFrames, AllDamaged}
 
 -- a power-on card with words of zero, activated, and a driver never opened; then opened with the address 00 00 00 00 00 00

@@ -1,16 +1,15 @@
 -- Two wrong services, and what they hand up: the promise is not one that any driver keeps. Assumes nothing.
 use mathlib.Core.Path.{_≡_}
-use mathlib.Core.Bool.{Bool, true, false, cond, _||_}
+use mathlib.Core.Bool.{Bool, true, cond, _||_}
 use mathlib.Core.List.{List}
-use Prim.Native.Nat.{ℕ, zero, suc, _%_}
+use Prim.Native.Nat.{ℕ, _%_}
 use lib.ListN.{replicate}
 use lib.Dec.{ltb}
 use Rattle.bits.specs.Bits.{has}
-use Rattle.regs.specs.Adapter.{Adapter}
 use Rattle.talk.specs.declared.Driver.{Driver}
 use Rattle.talk.specs.Registers.{statusPort, rxStatus, rxDiscard, rxComplete}
-use Rattle.talk.specs.Talk.{Talk, done, run, readWord, order}
-use Rattle.items.specs.Items.{Serving, plain, idleTalk, fetchTalk}
+use Rattle.talk.specs.Talk.{Talk, run, readWord, order}
+use Rattle.items.specs.Items.{Serving, idleTalk, fetchTalk}
 use Rattle.service.specs.Service as service
 use Rattle.runs.specs.Run.{Bench, after}
 use Rattle.no_trace.specs.Stretch.{begun, whole-frame}

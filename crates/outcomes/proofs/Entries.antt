@@ -12,7 +12,7 @@ use Rattle.outcomes.specs.Reports.{Reports, withStatuses, withOn}
 use Rattle.outcomes.specs.Outcome.{push}
 use Rattle.outcomes.specs.View.{soundOutcomes}
 use Rattle.outcomes.specs.declared.Outcomes.{Outcomes}
-use Rattle.outcomes.proofs.Tests.{by-test}
+use Rattle.laws.proofs.Tests.{by-test}
 
 -- ---- a push, way by way
 

@@ -10,7 +10,7 @@ use lib.ListN.{length, length-append}
 use Rattle.outcomes.specs.declared.Sender.{Sender}
 use Rattle.outcomes.specs.Reports.{Reports, withSender, withStatuses, withOn}
 use Rattle.outcomes.specs.Outcome.{atPowerOn, push, rest, pop, off, succeeded, collided, enable, reset, setLevel, setStart, due, settleAvailable, acknowledge, filled, availableSettled}
-use Rattle.outcomes.proofs.Tests.{by-test, both}
+use Rattle.laws.proofs.Tests.{by-test, both}
 
 or-true : (a : Bool) → (a || true) ≡ true
 or-true true = refl

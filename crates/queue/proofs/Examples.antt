@@ -2,13 +2,13 @@
 use mathlib.Core.Path.{_≡_, refl, ap, _∙_}
 use mathlib.Core.Bool.{true, false}
 use mathlib.Core.List.{List, [], _∷_, _++_}
-use Prim.Native.Nat.{ℕ, _+_}
+use Prim.Native.Nat.{ℕ}
 use lib.Dec.{lit≤}
 use lib.ListN.{length, replicate}
 use Rattle.store.specs.Store.{Frame, begun}
 use Rattle.queue.specs.Queue.{Queue, empty, noPart, room, free}
 use Rattle.queue.specs.Write.{put, completed}
-use Rattle.queue.specs.Leave.{told, leave}
+use Rattle.queue.specs.Leave.{told}
 use Rattle.queue.specs.Whole.{puts, bytesOf}
 use Rattle.queue.proofs.Whole.{written-whole}
 

@@ -14,7 +14,7 @@ use Rattle.queue.specs.Write.{sized}
 use Rattle.queue.specs.Sound.{allSized, growing}
 use Rattle.queue.specs.View.{txArea, packetsOf, growth, partOf, queueOf, Holds}
 use Rattle.queue.specs.declared.Fifo.{Fifo}
-use Rattle.queue.proofs.Logic.{both}
+use Rattle.laws.proofs.Tests.{both}
 use Rattle.queue.proofs.Parts.{part-length, room-words, least}
 
 pub words-of : (size n k : ℕ) (ram dir : List ℕ) → partOf size n k ram dir .words ≡ k

@@ -13,7 +13,8 @@ use Rattle.queue.specs.Queue.{Part, noPart, Queue, empty, room, free}
 use Rattle.queue.specs.Write.{sized, fails, withPart, opened, second, written, completed, put}
 use Rattle.queue.specs.Leave.{others, leave}
 use Rattle.queue.specs.Sound.{allSized, orderly}
-use Rattle.queue.proofs.Logic.{by-test, both, or-true}
+use Rattle.laws.proofs.Tests.{by-test, both}
+use Rattle.queue.proofs.Logic.{or-true}
 use Rattle.queue.proofs.Facts.{Grows}
 use Rattle.queue.proofs.Put.{put-stays, put-full, put-bad, put-opens, put-second, put-more, completes, goes-on}
 

@@ -15,7 +15,7 @@ use Rattle.store.proofs.Laws.{drop-take-le, part-snoc-set, kept-part, kept-set,
 use Rattle.queue.specs.Queue.{room}
 use Rattle.queue.specs.Write.{sized}
 use Rattle.queue.specs.Sound.{allSized}
-use Rattle.queue.proofs.Logic.{both}
+use Rattle.laws.proofs.Tests.{both}
 
 pub part-length : (l : List ℕ) (f n : ℕ) → f + n ≤ length l → length (part f n l) ≡ n
 part-length l f n h = length-take-le n (drop f l) (simp length-drop (omega arith))

@@ -16,7 +16,8 @@ use Rattle.queue.specs.Write.{sized}
 use Rattle.queue.specs.Sound.{allSized, growing, orderly}
 use Rattle.queue.specs.View.{packetsOf, partOf, queueOf, Packed, Holds, goodWords, soundFifo}
 use Rattle.queue.specs.declared.Fifo.{Fifo}
-use Rattle.queue.proofs.Logic.{by-test, both, and-true, and-assoc}
+use Rattle.laws.proofs.Tests.{by-test, both}
+use Rattle.queue.proofs.Logic.{and-true, and-assoc}
 use Rattle.queue.proofs.Parts.{part-length}
 use Rattle.queue.proofs.Facts.{words-of, room-of, facts}
 

@@ -7,7 +7,7 @@ use native.Mathlib.Omega.{arith}
 use lib.ListN.{length, take, length-append}
 use Rattle.store.specs.Store.{Frame, begun, lenOf, round4}
 use Rattle.queue.specs.Queue.{noPart, Queue, room, free}
-use Rattle.queue.specs.Write.{sized, written, put}
+use Rattle.queue.specs.Write.{sized, put}
 use Rattle.queue.specs.Whole.{puts, bytesOf}
 use Rattle.queue.proofs.Keeps.{room-snoc}
 use Rattle.queue.proofs.Put.{put-opens, put-second, put-more, completes, goes-on}

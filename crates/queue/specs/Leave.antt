@@ -1,14 +1,11 @@
 -- The oldest packet leaves, and what the wire is told of it. Assumes nothing.
 use mathlib.Core.List.{List, [], _∷_, _++_}
 use mathlib.Core.Bool.{Bool, false, cond}
-use Prim.Native.Nat.{ℕ, _-_, _/_, _%_}
+use Prim.Native.Nat.{ℕ, _-_}
 use lib.ListN.{length, replicate}
-use lib.Dec.{eqb}
+use Rattle.bits.specs.Bits.{has}
 use Rattle.store.specs.Store.{Frame}
 use Rattle.queue.specs.Queue.{Queue}
-
-abbrev pub has : ℕ → ℕ → Bool
-has weight n = eqb (n / weight % 2) 1
 
 -- of the first preamble word's bits 15 to 11: bit 15 completion wanted, bit 13 check included
 abbrev pub wanted : Frame → Bool

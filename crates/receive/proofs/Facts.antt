@@ -13,7 +13,7 @@ use Rattle.receive.specs.Frame.{Rx, room}
 use Rattle.receive.specs.Reading.{readable}
 use Rattle.receive.specs.Sound.{inOrder, earlySettled, kept, sound}
 use Rattle.receive.specs.View.{framesOf, rxArea, rxOf, Sound, soundSide}
-use Rattle.receive.proofs.Laws.{both, never}
+use Rattle.laws.proofs.Tests.{both, never}
 
 pub record Kept (size : ℕ) (x : Rx) : Type 0 where
   pub space : room (x .frames) ≤ size

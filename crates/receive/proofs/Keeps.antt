@@ -14,7 +14,8 @@ use Rattle.receive.specs.Update.{withOn, withEarly, withThreshold, withR
 use Rattle.receive.specs.Wire.{fresh, begins, fits8, wireStart, longer, fits, full, marked, takes, wireByte, ending, ends, wireEnd}
 use Rattle.receive.specs.Reading.{readable, beyond, afterRead, withoutOldest, discard, deafened, earlyDefault, rxReset}
 use Rattle.receive.specs.Sound.{sized, ended, started, inOrder, earlySettled, kept, sound}
-use Rattle.receive.proofs.Laws.{by-test, both, join, never, room-snoc}
+use Rattle.laws.proofs.Tests.{by-test, both, join, never}
+use Rattle.receive.proofs.Laws.{room-snoc}
 use Rattle.receive.proofs.Facts.{Kept, kept-shown, sound-told, sound-shown, sound-kept}
 
 -- a property of both ways holds of the way that is taken

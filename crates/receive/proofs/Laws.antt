@@ -1,33 +1,16 @@
 -- Laws of frames as the store keeps them and as they are told. Assumes nothing.
 use mathlib.Core.Path.{_≡_, refl, sym, ap, _∙_}
-use mathlib.Core.Bool.{Bool, true, false, _&&_}
 use mathlib.Core.List.{List, [], _∷_, _++_, map}
 use Prim.Native.Nat.{ℕ, _+_, _/_, _≤_, _<_}
 use native.Mathlib.Omega.{arith}
 use borrow.Author.Tests.{leb-true, leb-false, le-leb, lt-leb}
 use lib.Dec.{leb}
 use lib.ListN.{length}
+use Rattle.laws.proofs.Tests.{by-test}
 use Rattle.store.specs.Store as store
 use Rattle.store.specs.Store.{round4, roomIn}
 use Rattle.receive.specs.Frame.{Frame, isComing, overran, room}
 use Rattle.receive.specs.View.{stateOf, told, rxArea, Turns}
-
--- by cases on a test
-pub by-test : {P : Type 0} (t : Bool) → (t ≡ true → P) → (t ≡ false → P) → P
-by-test true y n = y refl
-by-test false y n = n refl
-
--- both of two tests
-pub both : (a b : Bool) → (a && b) ≡ true → (a ≡ true) × (b ≡ true)
-both true b h = (refl, h)
-both false true h = (h, refl)
-both false false h = (h, h)
-
-pub join : (a b : Bool) → a ≡ true → b ≡ true → (a && b) ≡ true
-join a b p q = rw (p, q)
-
-pub never : {P : Type 0} → false ≡ true → P
-never h = absurd (let z : _≡_ {A = ℕ} 0 1 = cc in omega arith)
 
 same-leb : (a b c d : ℕ) → (a ≤ b → c ≤ d) → (c ≤ d → a ≤ b) → leb a b ≡ leb c d
 same-leb a b c d f g =

@@ -15,7 +15,8 @@ use Rattle.store.proofs.Laws.{room-frames, room-append, room-one}
 use Rattle.receive.specs.Frame.{Frame, isComing, room}
 use Rattle.receive.specs.Sound.{sized, ended, inOrder}
 use Rattle.receive.specs.View.{told, rxArea, framesOf, endedWord, allEnded}
-use Rattle.receive.proofs.Laws.{both, coming-word, room-told}
+use Rattle.laws.proofs.Tests.{both}
+use Rattle.receive.proofs.Laws.{coming-word, room-told}
 
 and-true : (b : Bool) → (b && true) ≡ b
 and-true true = refl

@@ -11,7 +11,7 @@ use Rattle.receive.specs.Frame.{Frame, Rx, isComing}
 use Rattle.receive.specs.Update.{withEarly}
 use Rattle.receive.specs.Early.{earlyFlag, toldFlag, settleEarly}
 use Rattle.receive.specs.Sound.{earlySettled, kept, sound}
-use Rattle.receive.proofs.Laws.{by-test, never}
+use Rattle.laws.proofs.Tests.{by-test, never}
 use Rattle.receive.proofs.Facts.{kept-told, sound-told, sound-shown}
 
 flags-settled : (r : Receiver) (fs : List Frame) → (r .told || not (r .early)) ≡ true

@@ -6,7 +6,7 @@ use Prim.Native.Nat.{ℕ}
 use Rattle.receive.specs.Frame.{State, coming, whole, damaged, Frame, isComing, overran}
 use Rattle.receive.specs.Wire.{longer, full, marked, takes}
 use Rattle.receive.specs.Sound.{ended, started, sized, inOrder}
-use Rattle.receive.proofs.Laws.{both, never}
+use Rattle.laws.proofs.Tests.{both, never}
 use lib.ListN.{length}
 
 abbrev framed : List ℕ → State → Frame

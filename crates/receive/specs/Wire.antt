@@ -1,18 +1,15 @@
 -- The wire: a start with the first 8 bytes, then single bytes, then an end with two flags. Assumes nothing.
 use mathlib.Core.List.{List, [], _∷_, _++_}
 use mathlib.Core.Bool.{Bool, true, false, cond, not, _&&_, _||_}
-use Prim.Native.Nat.{ℕ, _+_, _/_, _%_}
+use Prim.Native.Nat.{ℕ, _+_}
 use lib.ListN.{length, getD, replicate}
 use lib.Dec.{ltb, leb, eqb}
+use Rattle.bits.specs.Bits.{has}
 use Rattle.store.specs.Store.{atNewest}
 use Rattle.receive.specs.Frame.{State, coming, whole, damaged, Frame, Rx, overran, room}
 use Rattle.receive.specs.Update.{withWire, withReceiver, withFrames}
 
 -- ---- the filter
-
--- a bit of a number, by its weight: 1, 2, 4, ..
-abbrev pub has : ℕ → ℕ → Bool
-has weight n = eqb (n / weight % 2) 1
 
 -- The first six bytes are an address.
 abbrev pub address : List ℕ → List ℕ → Bool

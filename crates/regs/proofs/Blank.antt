@@ -1,30 +1,26 @@
 -- Sides that hold nothing, whatever the memory holds. Assumes nothing.
-use mathlib.Core.Path.{_≡_, refl, ap, ap₂, subst, _∙_}
+use mathlib.Core.Path.{_≡_, refl, subst}
 use mathlib.Core.List.{List, []}
-use mathlib.Core.Bool.{Bool, false}
-use Prim.Native.Nat.{ℕ, _+_, _-_, _%_, _≤_, _<_}
+use mathlib.Core.Bool.{false}
+use Prim.Native.Nat.{ℕ, _%_}
 use native.Mathlib.Omega.{arith}
 use lib.ListN.{length, getD, replicate}
 use Rattle.store.specs.Store as store
 use Rattle.store.specs.Store.{frames, roomOf}
 use Rattle.idport.specs.declared.IdState.{IdState}
 use Rattle.idport.specs.Card.{idFresh}
-use Rattle.receive.specs.Frame.{Frame}
 use Rattle.receive.specs.Reading.{deafened}
 use Rattle.receive.specs.View.{framesOf, rxArea}
 use Rattle.queue.specs.declared.Fifo.{Fifo}
 use Rattle.queue.specs.Queue.{empty}
 use Rattle.queue.specs.View.{queueOf, partOf, txArea}
 use Rattle.outcomes.specs.declared.Outcomes.{Outcomes}
-use Rattle.outcomes.specs.Reports.{Reports}
 use Rattle.outcomes.specs.Outcome.{atPowerOn}
-use Rattle.outcomes.specs.View.{reportsOf, Reported}
-use Rattle.transmit.specs.Tx.{Tx}
+use Rattle.outcomes.specs.View.{Reported}
 use Rattle.regs.specs.declared.Card.{Card}
-use Rattle.regs.specs.Adapter.{Adapter}
 use Rattle.regs.specs.Room.{rxSize, txSize}
 use Rattle.regs.specs.Power.{quietRx, powerOn, reset}
-use Rattle.regs.specs.View.{view, Held, Is, Blank, Does}
+use Rattle.regs.specs.View.{view, Is, Blank, Does}
 use Rattle.regs.proofs.Ranges.{rx-small, tx-small}
 
 -- no frames, and an empty FIFO

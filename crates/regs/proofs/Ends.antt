@@ -1,18 +1,12 @@
 -- How a step ends: the flags, settle, and the test of soundness. Assumes nothing.
-use mathlib.Core.Path.{_≡_, refl, sym, ap, subst, subst⁻¹, _∙_}
-use mathlib.Core.Bool.{Bool, true, false, not, _&&_, _||_}
+use mathlib.Core.Path.{_≡_, ap, subst, _∙_}
+use mathlib.Core.Bool.{Bool, true, _||_}
 use mathlib.Core.List.{List}
-use Prim.Native.Nat.{ℕ, _%_, _≤_}
-use native.Mathlib.Omega.{arith}
-use lib.ListN.{length}
-use Rattle.laws.proofs.Tests.{both, join}
-use Rattle.idport.specs.Sound.{idSound}
+use Prim.Native.Nat.{ℕ, _%_}
 use Rattle.receive.specs.declared.Receive.{Receive}
-use Rattle.receive.specs.Frame.{Rx}
 use Rattle.receive.specs.Reading.{complete}
 use Rattle.receive.specs.Early.{settleEarly}
 use Rattle.receive.specs.View as rx
-use Rattle.receive.proofs.Facts.{side-told, side-shown}
 use Rattle.receive.proofs.Settled.{settled-sound}
 use Rattle.receive.proofs.Steps.{step-sound}
 use Rattle.outcomes.specs.Outcome.{some}
@@ -20,20 +14,18 @@ use Rattle.outcomes.specs.View.{stack}
 use Rattle.transmit.specs.declared.Transmit.{Transmit}
 use Rattle.transmit.specs.Tx as txs
 use Rattle.transmit.specs.View as tx
-use Rattle.transmit.proofs.Sound as txp
 use Rattle.regs.specs.declared.Card.{Card}
 use Rattle.regs.specs.declared.Flags.{Flags}
-use Rattle.regs.specs.Adapter.{Adapter}
-use Rattle.regs.specs.Update.{withRx, withTx, withLines, linesLatch}
+use Rattle.regs.specs.Update.{withTx, withLines, linesLatch}
 use Rattle.regs.specs.Status.{flags, interrupting}
-use Rattle.regs.specs.Settle.{settle, settleSides, withLatch}
-use Rattle.regs.specs.Sound.{selectSound, registersSound, latchSettled, kept, sound}
+use Rattle.regs.specs.Settle.{settle, withLatch}
+use Rattle.regs.specs.Sound.{kept, sound}
 use Rattle.regs.specs.Groups.{cardReceive, cardTransmit, cardLines}
-use Rattle.regs.specs.View.{rxSizeOf, txSizeOf, view, Held, Sound, Is, SettlesSides, Stands, soundCard}
-use Rattle.regs.proofs.Ranges.{rx-small, tx-small}
+use Rattle.regs.specs.View.{rxSizeOf, txSizeOf, view, Held, SettlesSides, Stands}
+use Rattle.regs.proofs.Ranges.{rx-small}
 use Rattle.regs.proofs.Groups.{is-lines}
 use Rattle.regs.proofs.Join.{is-rx, is-tx}
-use Rattle.regs.proofs.Sides.{rx-kept, tx-kept, settle-sound, rx-of, tx-of, registers-of, latch-of, sound-by}
+use Rattle.regs.proofs.Sides.{rx-kept, settle-sound}
 
 module _ (c : Card) (ram dir : List ℕ) where
   -- ---- the flags

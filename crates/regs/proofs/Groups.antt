@@ -1,25 +1,22 @@
 -- A card with one group changed is the adapter with that group changed. Assumes nothing.
-use mathlib.Core.Path.{_≡_, refl, sym, ap, ap₂, _∙_}
+use mathlib.Core.Path.{_≡_, refl, ap}
 use mathlib.Core.List.{List}
 use Prim.Native.Nat.{ℕ, _%_}
-use lib.ListN.{length}
 use Rattle.idport.specs.declared.IdState.{IdState}
 use Rattle.receive.specs.declared.Receiver.{Receiver}
 use Rattle.receive.specs.Update.{withReceiver}
 use Rattle.outcomes.specs.declared.Outcomes.{Outcomes}
 use Rattle.outcomes.specs.Reports.{Reports}
-use Rattle.outcomes.specs.View.{reportsOf, Reported}
-use Rattle.transmit.specs.Tx.{Tx, withReports}
-use Rattle.transmit.specs.View.{txOf}
+use Rattle.outcomes.specs.View.{Reported}
+use Rattle.transmit.specs.Tx.{withReports}
 use Rattle.regs.specs.declared.Select.{Select}
 use Rattle.regs.specs.declared.Lines.{Lines}
 use Rattle.regs.specs.declared.Config.{Config}
 use Rattle.regs.specs.declared.Prom.{Prom}
 use Rattle.regs.specs.declared.Card.{Card}
-use Rattle.regs.specs.Adapter.{Adapter}
 use Rattle.regs.specs.Update.{withId, withSelect, withLines, withConfig, withProm, withRx, withTx}
 use Rattle.regs.specs.Groups.{cardId, cardSelect, cardLines, cardConfig, cardProm, cardReceiver, cardOutcomes}
-use Rattle.regs.specs.View.{txSizeOf, view, Held, Is}
+use Rattle.regs.specs.View.{view, Held, Is}
 
 module _ (c : Card) (ram dir : List ℕ) (h : Held c ram dir) where
   pub is-same : Is c ram dir (view c ram dir)

@@ -1,9 +1,8 @@
 -- A step of one side is a step of the adapter: the other side lies apart in the memory. Assumes nothing.
-use mathlib.Core.Path.{_≡_, sym, ap, ap₂, subst, subst⁻¹, _∙_}
+use mathlib.Core.Path.{_≡_, ap₂, subst, subst⁻¹, _∙_}
 use mathlib.Core.List.{List}
-use Prim.Native.Nat.{ℕ, _+_, _-_, _%_}
+use Prim.Native.Nat.{ℕ, _-_, _%_}
 use native.Mathlib.Omega.{arith}
-use lib.ListN.{length}
 use Rattle.store.specs.Store.{Kept}
 use Rattle.receive.specs.declared.Receive.{Receive}
 use Rattle.receive.specs.Frame.{Rx}
@@ -16,7 +15,6 @@ use Rattle.transmit.specs.declared.Transmit.{Transmit}
 use Rattle.transmit.specs.Tx.{Tx}
 use Rattle.transmit.specs.View as tx
 use Rattle.regs.specs.declared.Card.{Card}
-use Rattle.regs.specs.Adapter.{Adapter}
 use Rattle.regs.specs.Update.{withRx, withTx}
 use Rattle.regs.specs.Room.{rxSize, txSize}
 use Rattle.regs.specs.Groups.{cardReceive, cardTransmit}

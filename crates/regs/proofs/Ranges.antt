@@ -1,13 +1,13 @@
 -- What the test of the registers tells. Assumes nothing.
 use mathlib.Core.Path.{_≡_}
-use mathlib.Core.Bool.{true, cond, _&&_}
-use Prim.Native.Nat.{ℕ, _+_, _-_, _≤_}
+use mathlib.Core.Bool.{true}
+use Prim.Native.Nat.{ℕ, _+_, _≤_}
 use native.Mathlib.Omega.{arith}
 use borrow.Author.Tests.{leb-true}
-use lib.Dec.{leb, eqb}
+use lib.Dec.{eqb}
 use Rattle.laws.proofs.Tests.{both, by-test}
 use Rattle.regs.specs.declared.Select.{Select}
-use Rattle.regs.specs.Sound.{isMask, selectSound}
+use Rattle.regs.specs.Sound.{selectSound}
 use Rattle.regs.specs.Room.{txSize, rxSize}
 
 pub window-small : (s : Select) → selectSound s ≡ true → s .window ≤ 7

@@ -2,17 +2,14 @@
 use mathlib.Core.Path.{_≡_, refl, sym, ap, subst⁻¹, _∙_}
 use mathlib.Core.Bool.{Bool, true, false, not, _&&_, _||_}
 use mathlib.Core.List.{List}
-use Prim.Native.Nat.{ℕ, _%_, _≤_}
-use native.Mathlib.Omega.{arith}
-use lib.ListN.{length}
+use Prim.Native.Nat.{ℕ, _%_}
 use Rattle.laws.proofs.Tests.{both, join}
 use Rattle.receive.specs.View as rx
 use Rattle.receive.specs.Sound as rxs
-use Rattle.receive.proofs.Facts.{side-told, side-shown, sound-told, kept-shown}
+use Rattle.receive.proofs.Facts.{sound-told, kept-shown}
 use Rattle.receive.proofs.Settled as rxk
 use Rattle.transmit.specs.Tx as txs
 use Rattle.transmit.specs.View as tx
-use Rattle.transmit.proofs.Sound as txp
 use Rattle.transmit.proofs.Keeps as txk
 use Rattle.regs.specs.declared.Card.{Card}
 use Rattle.regs.specs.Adapter.{Adapter}
@@ -21,7 +18,7 @@ use Rattle.regs.specs.Update.{withLines, withRx, withTx, linesLatch}
 use Rattle.regs.specs.Settle.{withLatch, settle, settleSides}
 use Rattle.regs.specs.Room.{rxRoom, txRoom}
 use Rattle.regs.specs.Sound.{registersSound, kept, latchSettled, sound}
-use Rattle.regs.specs.View.{rxSizeOf, txSizeOf, view, Held, Sound}
+use Rattle.regs.specs.View.{rxSizeOf, txSizeOf, view, Sound}
 use Rattle.regs.proofs.Ranges.{rx-small, tx-small}
 
 -- ---- a sound adapter

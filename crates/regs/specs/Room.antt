@@ -2,7 +2,6 @@
 use mathlib.Core.Bool.{cond}
 use Prim.Native.Nat.{ℕ, _%_}
 use lib.Dec.{eqb}
-use Rattle.receive.specs.Reading as reading
 use Rattle.queue.specs.Queue as queue
 use Rattle.regs.specs.Adapter.{Adapter}
 

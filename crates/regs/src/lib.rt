@@ -1,7 +1,7 @@
 // The card by value: its registers in groups, the Status word, settle, power-on, and the test of its soundness.
 ghost use mathlib.Core.Path.{_≡_};
 ghost use mathlib.Core.Bool.{true};
-ghost use Prim.Native.Nat.{_%_, _≤_, _<_};
+ghost use Prim.Native.Nat.{_%_, _≤_};
 ghost use lib.ListN.{length};
 ghost use Rattle.regs.specs.Room.{txSize, rxSize};
 ghost use Rattle.receive.specs.View as rx;
@@ -9,7 +9,7 @@ ghost use Rattle.regs.specs.Status.{statusOf, statusWord, flags as flags
 ghost use Rattle.regs.specs.Settle.{settle as settleOf};
 ghost use Rattle.regs.specs.Power.{powerOn, reset as resetOf};
 ghost use Rattle.regs.specs.Sound.{selectSound, kept};
-ghost use Rattle.regs.specs.View.{rxSizeOf, view, Held, Sound, Is, Blank, Does, SettlesSides, Stands, soundCard};
+ghost use Rattle.regs.specs.View.{rxSizeOf, view, Held, Sound, Blank, Does, SettlesSides, Stands, soundCard};
 use idport::IdState;
 use queue::Fifo;
 use receive::Receive;

@@ -1,7 +1,7 @@
 -- Runs one after the other. Assumes nothing.
 use mathlib.Core.Path.{_≡_, refl}
 use mathlib.Core.List.{List, [], _∷_, _++_, append-assoc}
-use Rattle.runs.specs.Run.{Bench, Event, next, said, after, sayings}
+use Rattle.runs.specs.Run.{Bench, Event, next, after, sayings}
 
 pub after-append : (es fs : List Event) (b : Bench) → after (es ++ fs) b ≡ after fs (after es b)
 unfolding after

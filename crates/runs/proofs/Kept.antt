@@ -1,11 +1,10 @@
 -- Every access and event keeps the soundness of the adapter, every call that of the driver too; so every run does. Assumes nothing.
 use mathlib.Core.Path.{_≡_, refl, subst}
-use mathlib.Core.Bool.{Bool, true, false, cond, not, _&&_}
+use mathlib.Core.Bool.{Bool, true, not, _&&_}
 use mathlib.Core.List.{List, [], _∷_}
-use Prim.Native.Nat.{ℕ, _<_}
+use Prim.Native.Nat.{ℕ}
 use native.Mathlib.Omega.{arith}
 use borrow.Author.Tests.{eqb-true}
-use lib.ListN.{length}
 use lib.Dec.{ltb, eqb}
 use Rattle.laws.proofs.Tests.{both, join, of-cond, of-test}
 use Rattle.idport.specs.declared.IdState.{IdState}
@@ -19,19 +18,17 @@ use Rattle.receive.specs.Early.{earlyFlag, toldFlag}
 use Rattle.outcomes.specs.Outcome.{due}
 use Rattle.regs.specs.Status.{interrupting}
 use Rattle.regs.specs.Settle.{settle}
-use Rattle.regs.specs.Sound.{sound, kept}
-use Rattle.regs.proofs.Sides.{kept-of, registers-of, settle-sound, settle-stays}
+use Rattle.regs.specs.Sound.{sound}
+use Rattle.regs.proofs.Sides.{kept-of, registers-of, settle-sound}
 use Rattle.commands.proofs.Keeps.{Keeping, power-on-kept}
 use Rattle.window_read.specs.Read.{afterWord}
-use Rattle.steps.specs.Access.{Access, ReadWord, ReadByte, WriteWord, WriteByte, Step, step, effect, ones, access}
+use Rattle.steps.specs.Access.{Access, ReadWord, ReadByte, WriteWord, WriteByte, Step, effect, access}
 use Rattle.steps.specs.Event as card
 use Rattle.steps.proofs.Keeps as keeps
 use Rattle.card.specs.Calls.{onWire, offWire}
-use Rattle.talk.specs.declared.Driver.{Driver}
 use Rattle.talk.specs.Driver.{driverSound, neverOpened}
 use Rattle.talk.specs.Talk.{Talk, done, ask, run}
 use Rattle.opening.specs.Open.{openTalk}
-use Rattle.service.specs.Service.{lookTalk}
 use Rattle.items.specs.Items.{Serving}
 use Rattle.driver.specs.Calls.{openCall, sendCall, serviceCall}
 use Rattle.driver.proofs.Keeps.{send-keeps, service-keeps}

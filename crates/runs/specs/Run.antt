@@ -1,11 +1,10 @@
 -- Runs: what happens to the card, what its driver is asked, and what is answered, in order.
 -- The state is sound all along (`Every-step-keeps-soundness`), so refusal 1 does not come here. Assumes nothing.
 use mathlib.Core.Path.{_≡_}
-use mathlib.Core.Bool.{Bool, true, false, cond, _&&_}
+use mathlib.Core.Bool.{Bool, true, cond, _&&_}
 use mathlib.Core.List.{List, [], _∷_, _++_}
 use Prim.Native.Nat.{ℕ, _<_}
 use lib.ListN.{length}
-use lib.Dec.{eqb}
 use Rattle.idport.specs.Card.{idWrite, idAfterRead}
 use Rattle.queue.specs.Leave.{toldOf}
 use Rattle.transmit.specs.Tx.{ready}

@@ -5,7 +5,7 @@ use mathlib.Core.List.{List}
 use Prim.Native.Nat.{ℕ}
 use Rattle.regs.specs.Power.{powerOn}
 use Rattle.talk.specs.Driver.{neverOpened}
-use Rattle.runs.specs.Run.{Bench, soundBench, Event, after, Earlier, since}
+use Rattle.runs.specs.Run.{Bench, soundBench, Earlier, since}
 
 -- a power-on card with any EEPROM words, and a driver never opened
 abbrev pub fresh : List ℕ → Bench

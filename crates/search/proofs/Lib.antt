@@ -1,5 +1,4 @@
 -- Laws that the proofs of `search` cite.
-pub mod UpTo
 pub mod Cards
 pub mod Accesses
 pub mod Finish

@@ -1,13 +1,14 @@
 -- A call's way down the refusals, and what it comes to where nothing is refused.
 -- Assumes nothing.
 use Prim.Native.Nat.{ℕ, _-_, _/_, _%_, _<_, _≤_}
-use mathlib.Core.Path.{_≡_, refl, sym, _∙_, ap}
-use mathlib.Core.Bool.{Bool, true, false, _&&_, false≢true}
+use mathlib.Core.Path.{_≡_, sym, _∙_, ap}
+use mathlib.Core.Bool.{Bool, true, false, _&&_}
 use mathlib.Core.List.{List, [], _∷_, _++_}
 use native.Mathlib.Omega.{arith}
 use lib.Dec.{leb, eqb}
 use lib.ListN.{length, replicate, take-append-drop, length-take}
 use borrow.Author.Tests.{leb-true}
+use Rattle.laws.proofs.Tests.{both}
 use Rattle.idport.specs.declared.IdState.{IdState}
 use Rattle.search.specs.declared.Bus.{Bus}
 use Rattle.search.specs.declared.Wrote.{Wrote}
@@ -20,10 +21,6 @@ use Rattle.search.specs.Port.{held, rest, seated, portWrite, portBit, po
 use Rattle.search.specs.Search.{search, activate}
 use Rattle.search.specs.Calls.{Outcome, told, wroteOf, readOf, foundOf, activatedOf, padded, allSound, allowed, naming, digitOf, refusing, judged, ended, searched, activated}
 use Rattle.search.specs.Held.{listed, Writes, Reads, Searched, Activated}
-
-pub both : (a b : Bool) → a && b ≡ true → (a ≡ true) × (b ≡ true)
-both true b e = (refl, e)
-both false b e = absurd (false≢true e)
 
 -- refusal 1, refusal 12, none
 module _ (b : Bus) (ok : Bool) (o : Outcome) where

@@ -1,5 +1,5 @@
 -- The EEPROM commands of the manual's table: a 2-bit op code and a 6-bit address. They finish at once. Assumes nothing.
-use mathlib.Core.List.{List, map}
+use mathlib.Core.List.{map}
 use mathlib.Core.Bool.{Bool, true, false, cond}
 use Prim.Native.Nat.{ℕ, _/_, _%_}
 use lib.ListN.{getD, set, replicate}

@@ -1,10 +1,7 @@
 // The EEPROM behind window 0: its commands, at once.
 ghost use mathlib.Core.Path.{_≡_};
-ghost use mathlib.Core.List.{map};
 ghost use Prim.Native.Nat.{_<_};
-ghost use lib.ListN.{length};
-ghost use lib.Bits.{bitAnd};
-ghost use Rattle.setup.specs.Eeprom.{writeAll, eraseAll, writeWord, eraseWord, readWord, ifEnabled, whole, promCommand};
+ghost use Rattle.setup.specs.Eeprom.{writeAll, eraseAll, writeWord, eraseWord, readWord, whole, promCommand};
 use idport::IdState;
 use regs::Prom;
 

@@ -4,7 +4,7 @@ use mathlib.Core.Bool.{Bool, true, false, cond, _&&_}
 use mathlib.Core.List.{List}
 use Prim.Native.Nat.{ℕ, _+_, _*_, _%_, _/_, _-_, _≤_, _<_}
 use native.Mathlib.Omega.{arith}
-use borrow.Author.Tests.{ltb-true, ltb-false, eqb-true, eqb-false, lt-ltb, eq-eqb, ne-eqb}
+use borrow.Author.Tests.{ltb-true, ltb-false, eqb-true, eq-eqb, ne-eqb}
 use lib.Dec.{ltb, eqb}
 use Rattle.laws.proofs.Tests.{both, by-test, join, never}
 use Rattle.receive.specs.Reading.{dataWord, afterRead}
@@ -22,7 +22,7 @@ use Rattle.commands.proofs.Keeps.{Keeping}
 use Rattle.window_read.specs.Read.{window1, wordAt, afterWord}
 use Rattle.window_write.specs.declared.Lanes.{Lanes}
 use Rattle.window_write.specs.Write.{executed, write}
-use Rattle.steps.specs.Access.{Access, ReadWord, ReadByte, WriteWord, WriteByte, Step, step, byteAt, effect, ones, access}
+use Rattle.steps.specs.Access.{Access, ReadWord, ReadByte, Step, step, byteAt, effect, ones, access}
 use Rattle.steps.specs.Gives.{Gives}
 
 -- ---- an effect, settled

@@ -1,35 +1,30 @@
 -- Worked examples, by computing: accesses and events on a card that the ID port has activated. Assumes nothing.
 use mathlib.Core.Path.{_≡_, refl}
-use mathlib.Core.List.{List, [], _∷_, _++_}
+use mathlib.Core.List.{List, [], _∷_}
 use mathlib.Core.Bool.{Bool, true, false}
 use Prim.Native.Nat.{ℕ, zero, suc, _+_, _*_}
 use lib.ListN.{replicate}
-use lib.Dec.{ltb, leb, eqb}
 use Rattle.idport.specs.Card.{activated}
 use Rattle.receive.specs.Frame.{isComing, overran, room}
 use Rattle.receive.specs.Wire as wire
 use Rattle.receive.specs.Wire.{passes, begins, marked, ending}
-use Rattle.receive.specs.Reading as reading
-use Rattle.receive.specs.Reading.{marks, rxStatus, rxFree, complete, readable, oldest, dataWord, afterRead, withoutOldest, discard}
+use Rattle.receive.specs.Reading.{marks, rxStatus, complete, readable, oldest, dataWord, afterRead}
 use Rattle.receive.specs.Early.{earlyFlag, toldFlag}
 use Rattle.store.specs.Store.{atNewest}
 use Rattle.queue.specs.Queue as queue
 use Rattle.queue.specs.Write.{completed, put}
-use Rattle.queue.specs.Leave.{toldOf, others}
-use Rattle.outcomes.specs.Outcome as outcome
-use Rattle.outcomes.specs.Outcome.{top, some, push, rest, succeeded, collided, enable, due}
-use Rattle.transmit.specs.Tx as tx
+use Rattle.outcomes.specs.Outcome.{some, enable, due}
 use Rattle.regs.specs.Adapter.{Adapter}
 use Rattle.regs.specs.Update.{withId}
 use Rattle.regs.specs.Room.{txSize, rxSize}
 use Rattle.regs.specs.Status.{statusOf, interrupting}
 use Rattle.regs.specs.Settle.{settle}
-use Rattle.regs.specs.Power.{powerOn, reset}
+use Rattle.regs.specs.Power.{powerOn}
 use Rattle.commands.specs.Command.{act, command, commanded}
-use Rattle.window_read.specs.Read.{window0, window1, window2, window3, window5, wordAt, afterWord}
-use Rattle.window_write.specs.Write.{controlled, write0, write1, write2, inUse, resplit, write3, write, writeWord, writeByte}
-use Rattle.steps.specs.Access.{Access, ReadWord, ReadByte, WriteWord, WriteByte, Step, access, effect, byteAt}
-use Rattle.steps.specs.Event.{wireStart, wireByte, wireEnd, success, collisions}
+use Rattle.window_read.specs.Read.{window1, wordAt, afterWord}
+use Rattle.window_write.specs.Write.{write1, write, writeWord}
+use Rattle.steps.specs.Access.{Access, ReadWord, WriteWord, access, effect}
+use Rattle.steps.specs.Event.{wireStart, wireByte, wireEnd}
 
 -- a power-on card with words of zero, activated
 on : Adapter

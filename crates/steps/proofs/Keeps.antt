@@ -1,12 +1,12 @@
 -- Every access and event on a sound adapter keeps what settle needs. Assumes nothing.
 use mathlib.Core.Path.{_≡_, refl, sym, ap, _∙_}
-use mathlib.Core.Bool.{Bool, true, false, cond, not, _&&_}
+use mathlib.Core.Bool.{Bool, true, false, not, _&&_}
 use mathlib.Core.List.{List, [], _∷_}
 use Prim.Native.Nat.{ℕ, zero, suc, _+_, _*_, _-_, _/_, _%_, _≤_, _<_}
 use native.Mathlib.Omega.{arith}
 use borrow.Author.Tests.{le-leb}
 use lib.Dec.{ltb, leb, eqb}
-use lib.ListN.{length, set}
+use lib.ListN.{length}
 use Rattle.laws.proofs.Tests.{both, join, of-cond, of-test, by-test, never}
 use Rattle.bits.specs.Bits.{has}
 use Rattle.store.specs.Store as store
@@ -25,16 +25,15 @@ use Rattle.outcomes.proofs.Keeps.{pop-keeps}
 use Rattle.transmit.specs.Tx as txs
 use Rattle.transmit.specs.Tx.{writeData}
 use Rattle.transmit.proofs.Keeps as txk
-use Rattle.regs.specs.declared.Config.{Config}
 use Rattle.regs.specs.declared.Prom.{Prom}
 use Rattle.regs.specs.Adapter.{Adapter}
-use Rattle.regs.specs.Update.{withId, withConfig, withProm, withLines, withRx, withTx, linesLow, configSecond, idDue}
+use Rattle.regs.specs.Update.{withId, withConfig, withLines, withRx, withTx, linesLow, configSecond, idDue}
 use Rattle.regs.specs.Room.{rxRoom, txRoom}
-use Rattle.regs.specs.Power.{powerOn, reset}
-use Rattle.regs.specs.Sound.{selectSound, registersSound, kept, sound}
-use Rattle.regs.proofs.Sides.{rx-of, tx-of, registers-of, kept-by, kept-of, rx-kept, tx-kept, registers-kept}
+use Rattle.regs.specs.Power.{powerOn}
+use Rattle.regs.specs.Sound.{selectSound, kept, sound}
+use Rattle.regs.proofs.Sides.{rx-of, tx-of, registers-of, kept-by, kept-of, rx-kept, tx-kept}
 use Rattle.setup.specs.declared.Setup.{Setup}
-use Rattle.setup.specs.Eeprom.{ifEnabled, leaving, readWord, writeWord, eraseWord, whole, promCommand, writeAll, eraseAll}
+use Rattle.setup.specs.Eeprom.{ifEnabled, leaving, writeWord, eraseWord, whole, promCommand, writeAll, eraseAll}
 use Rattle.steps.specs.Event.{seated}
 use Rattle.commands.proofs.Keeps.{Keeping, wire-small, rx-changed, tx-changed, id-kept, reset-keeps, power-on-kept, commanded-keeps, reported-keeps}
 use Rattle.window_write.specs.declared.Lanes.{Lanes}

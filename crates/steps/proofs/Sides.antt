@@ -1,9 +1,8 @@
 -- What the effects of the wire and of the outcomes come to on the whole card. Assumes nothing.
-use mathlib.Core.Path.{_≡_, refl, sym, ap, subst, subst⁻¹, _∙_}
+use mathlib.Core.Path.{_≡_, sym, ap, subst, subst⁻¹, _∙_}
 use mathlib.Core.Bool.{Bool, true, false, cond, _&&_}
 use mathlib.Core.List.{List}
 use Prim.Native.Nat.{ℕ}
-use lib.ListN.{length}
 use Rattle.idport.specs.declared.IdState.{IdState}
 use Rattle.receive.specs.declared.Receive.{Receive}
 use Rattle.receive.specs.Frame.{Rx}
@@ -13,7 +12,6 @@ use Rattle.receive.specs.Reading.{deafened}
 use Rattle.receive.specs.View as rx
 use Rattle.queue.specs.Leave.{toldOf}
 use Rattle.queue.specs.View.{Tells}
-use Rattle.transmit.specs.Tx as txs
 use Rattle.transmit.specs.View as tx
 use Rattle.regs.specs.declared.Card.{Card}
 use Rattle.regs.specs.Adapter.{Adapter}

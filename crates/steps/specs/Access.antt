@@ -1,5 +1,5 @@
 -- The host's accesses. Assumes nothing.
-use mathlib.Core.Bool.{Bool, cond}
+use mathlib.Core.Bool.{cond}
 use Prim.Native.Nat.{ℕ, _-_, _/_, _%_}
 use lib.Dec.{eqb}
 use Rattle.regs.specs.Adapter.{Adapter}

@@ -3,14 +3,13 @@ use mathlib.Core.Path.{_≡_, refl, sym, ap, ap₂, _∙_}
 use mathlib.Core.Logic.{_⊎_}
 use mathlib.Core.List.{List, [], _∷_, _++_}
 use Prim.Native.Nat.{ℕ, zero, suc, _+_, _*_, _-_, _/_, _%_, _≤_, _<_}
-use native.Mathlib.Nat.{add-assoc}
 use native.Mathlib.Numerals.{add-one}
 use native.Mathlib.Omega.{arith}
-use lib.ListN.{length, take, drop, getD, set, length-take, length-drop, length-set, length-append}
-use lib.Seq.{take-suc, take-length, length-take-le, take-take, drop-drop, getD-take, length-paste}
+use lib.ListN.{length, take, drop, getD, set, length-drop, length-set, length-append}
+use lib.Seq.{take-suc, take-length, length-take-le, take-take, drop-drop, getD-take}
 use Rattle.store.specs.declared.Area.{Area}
-use Rattle.store.specs.Store.{lenOf, round4, Frame, frames, roomOf, part, words, view, atNewest, extended, extendedBy, headed, begun, appended, newer, oldest, older, newest, roomIn, shifted, Kept, Sound, Becomes, Open}
-use Rattle.store.proofs.Laws.{room-append, room-one, room-frames, newest-length, older-frames, newest-appended, older-appended, appended-some, part-cons, part-snoc, part-set, part-snoc-set, part-shifted, kept-shift, kept-set, kept-part, frames-take, frames-more, drop-take-le, at-snoc, frames-snoc, newest-snoc, older-snoc, appended-more, appended-none}
+use Rattle.store.specs.Store.{lenOf, round4, Frame, frames, roomOf, part, words, view, atNewest, extendedBy, headed, begun, appended, newer, oldest, older, newest, roomIn, shifted, Kept, Sound, Becomes, Open}
+use Rattle.store.proofs.Laws.{room-append, room-one, room-frames, newest-length, older-frames, newest-appended, older-appended, appended-some, part-cons, part-snoc, part-set, part-snoc-set, part-shifted, kept-shift, kept-set, kept-part, frames-take, frames-more, drop-take-le, at-snoc, frames-snoc, appended-more, appended-none}
 
 part-length : (l : List ℕ) (f n : ℕ) → f + n ≤ length l → length (part f n l) ≡ n
 part-length l f n h = length-take-le n (drop f l) (simp length-drop (omega arith))

@@ -6,7 +6,7 @@ use Prim.Native.Nat.{ℕ, _≤_}
 use Rattle.queue.specs.Queue.{noPart, free}
 use Rattle.queue.specs.Leave.{leave, oldestWanted}
 use Rattle.queue.specs.Sound.{orderly}
-use Rattle.queue.proofs.Logic.{both}
+use Rattle.laws.proofs.Tests.{both}
 use Rattle.queue.proofs.Keeps.{put-keeps, leave-keeps, none-orderly, empty-orderly}
 use Rattle.outcomes.specs.Reports.{Reports}
 use Rattle.outcomes.specs.Outcome.{succeeded, collided, pop, enable, off, reset, setLevel, setStart, acknowledge, filled, availableSettled}

@@ -10,7 +10,7 @@ use Rattle.store.specs.Store.{Kept}
 use Rattle.queue.specs.Queue.{Queue, free}
 use Rattle.queue.specs.Sound.{orderly}
 use Rattle.queue.specs.View.{queueOf, Packed, Holds, soundFifo}
-use Rattle.queue.proofs.Logic.{both}
+use Rattle.laws.proofs.Tests.{both}
 use Rattle.queue.proofs.Sound.{sound-holds, holds-sound}
 use Rattle.queue.proofs.Apart.{packed-kept, queue-kept, resized}
 use Rattle.outcomes.specs.Outcome.{filled, availableSettled}

@@ -13,7 +13,7 @@ use Rattle.store.proofs.Laws.{part-cons}
 use Rattle.queue.specs.declared.Fifo.{Fifo}
 use Rattle.queue.specs.Queue.{Queue, empty}
 use Rattle.queue.specs.View.{txArea, packetsOf, partOf, queueOf, Packed, Turns}
-use Rattle.queue.proofs.Logic.{both}
+use Rattle.laws.proofs.Tests.{both}
 use Rattle.queue.proofs.Put.{turns-same}
 use Rattle.outcomes.specs.declared.Outcomes.{Outcomes}
 use Rattle.outcomes.specs.Reports.{Reports}

@@ -1,6 +1,6 @@
 -- The register map: what a word read gives, window by window (the manual's Window Set chapter). Assumes nothing.
 use mathlib.Core.List.{List}
-use mathlib.Core.Bool.{Bool, cond, _&&_}
+use mathlib.Core.Bool.{cond, _&&_}
 use Prim.Native.Nat.{ℕ, _+_, _*_, _-_}
 use lib.ListN.{getD}
 use lib.Dec.{ltb, eqb}

@@ -7,7 +7,6 @@ use lib.Dec.{ltb, eqb}
 use Rattle.bits.specs.Bits.{has, lowByte, highByte}
 use Rattle.store.specs.Store as store
 use Rattle.receive.specs.Frame.{Frame}
-use Rattle.queue.specs.Queue.{Queue}
 use Rattle.outcomes.specs.Outcome.{pop}
 use Rattle.transmit.specs.Tx.{writeData}
 use Rattle.regs.specs.Adapter.{Adapter}

@@ -1,6 +1,6 @@
 // The register map: what a write does, window by window. A write covers both bytes of a register, its low byte or its high byte.
 ghost use mathlib.Core.Path.{_≡_};
-ghost use Prim.Native.Nat.{_%_, _≤_, _<_};
+ghost use Prim.Native.Nat.{_%_, _<_};
 ghost use Rattle.outcomes.specs.View.{Stacked};
 ghost use Rattle.regs.specs.Update.{idAddress, idShift, configResource, configFirst};
 ghost use Rattle.regs.specs.Groups.{cardId, cardConfig};

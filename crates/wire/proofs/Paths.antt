@@ -15,7 +15,8 @@ use Rattle.receive.specs.Frame.{coming, Frame, overran}
 use Rattle.receive.specs.Wire.{fresh, longer, fits, full, takes, ending, ends}
 use Rattle.receive.specs.Sound.{inOrder}
 use Rattle.receive.specs.View.{stateOf, told, rxArea, framesOf, Turns}
-use Rattle.receive.proofs.Laws.{never, overran-word, room-told, room-snoc, map-snoc, lift}
+use Rattle.laws.proofs.Tests.{never}
+use Rattle.receive.proofs.Laws.{overran-word, room-told, room-snoc, map-snoc, lift}
 use Rattle.receive.proofs.Taking.{newest-coming, takes-none, takes-marks, takes-longer}
 
 -- ---- the frames, told, are the others and the newest

@@ -1,38 +1,31 @@
 -- `card::read_word` meets its contract: each way of its tests is one of the paper's. Assumes nothing.
 use borrow.Author.Needs.{needs}
 use borrow.Author.Tests.{not-true, not-false}
-use mathlib.Core.Path.{_≡_, refl, sym, ap, _∙_}
-use mathlib.Core.Bool.{true}
-use lib.ListN.{length}
+use mathlib.Core.Path.{ap}
 use borrow.Author.Tests.{eqb-true}
 use Prim.Native.Nat.{_%_}
 use lib.Dec.{leb, eqb}
 use Rattle.laws.proofs.Tests.{both}
 use Rattle.card.specs.Calls.{value}
-use Rattle.regs.specs.View.{Sound, soundCard}
 use Rattle.regs.proofs.Checked.{card-told}
-use Rattle.card.proofs.Judged.{unsound, refuses, goes}
+use Rattle.card.proofs.Judged.{fails, holds, unsound, refuses, goes}
 use Rattle.card.proofs.read_word.Statement.{statement}
 use Rattle.card.proofs.read_word.Tie as tie
 
-sounds : (c : tie.Start) → length (c .args .ram .now) ≡ 8192 → length (c .args .dir .now) ≡ 1110 → soundCard (c .args .c) (c .args .ram .now) (c .args .dir .now) ≡ true
-    → Sound (c .args .c) (c .args .ram .now) (c .args .dir .now)
-sounds c r d e = card-told (c .args .c) (c .args .ram .now) (c .args .dir .now) r d e
-
 returns : tie.Need-returns
-returns c = unsound _ _ 11 _ _ _ _ _ (sym (c .before .is-sound .ensures) ∙ not-true _ (c .if1 .taken))
+returns c = unsound _ _ 11 _ _ _ _ _ (fails (c .before .is-sound .ensures) (c .if1 .taken))
 
 returns-2 : tie.Need-returns-2
-returns-2 c = refuses _ _ 11 _ _ _ _ _ (sym (c .before .before .is-sound .ensures) ∙ not-false _ (c .before .if1 .left)) (not-true _ (c .if2 .taken))
+returns-2 c = refuses _ _ 11 _ _ _ _ _ (holds (c .before .before .is-sound .ensures) (c .before .if1 .left)) (not-true _ (c .if2 .taken))
 
 read-word-requires : tie.Need-read-word-requires
 read-word-requires c κs =
     let o = c .before .before .before .before .before .before .before .args .o in
-    (sounds (c .before .before .before .before .before .before .before) (search needs) (search needs) (sym (c .before .before .before .before .is-sound .ensures) ∙ not-false _ (c .before .before .before .if1 .left)), eqb-true (o % 2) 0 (both (leb o 15) (eqb (o % 2) 0) (not-false _ (c .before .before .if2 .left)) .1))
+    (card-told _ _ _ (search needs) (search needs) (holds (c .before .before .before .before .is-sound .ensures) (c .before .before .before .if1 .left)), eqb-true (o % 2) 0 (both (leb o 15) (eqb (o % 2) 0) (not-false _ (c .before .before .if2 .left)) .1))
 
 returns-3 : tie.Need-returns-3
 returns-3 c =
-    goes _ _ 11 _ _ _ _ _ _ _ _ _ (sym (c .before .before .before .before .before .before .is-sound .ensures) ∙ not-false _ (c .before .before .before .before .before .if1 .left)) (not-false _ (c .before .before .before .before .if2 .left)) (ap value (c .before .read-word .ensures .value)) (c .before .read-word .ensures .stands)
+    goes _ _ 11 _ _ _ _ _ _ _ _ _ (holds (c .before .before .before .before .before .before .is-sound .ensures) (c .before .before .before .before .before .if1 .left)) (not-false _ (c .before .before .before .before .if2 .left)) (ap value (c .before .read-word .ensures .value)) (c .before .read-word .ensures .stands)
 
 pub read-word-spec : {M : Type 1} → statement M
 read-word-spec = tie.close (tie.spec (λ c κs. search needs) returns returns-2 read-word-requires returns-3)

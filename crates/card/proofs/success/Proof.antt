@@ -1,48 +1,40 @@
 -- `card::success` meets its contract: each way of its tests is one of the paper's. Assumes nothing.
 use borrow.Author.Needs.{needs}
-use borrow.Author.Tests.{not-true, not-false}
-use mathlib.Core.Path.{_≡_, refl, sym, ap, _∙_}
-use mathlib.Core.Bool.{true}
+use mathlib.Core.Path.{ap}
 use lib.ListN.{length}
-use Rattle.transmit.specs.Tx.{ready}
 use Rattle.transmit.proofs.Steps.{ready-some}
-use Rattle.regs.specs.View.{txSizeOf, view}
+use Rattle.regs.specs.View.{view}
 use Prim.Native.Nat.{_≤_}
-use Rattle.regs.specs.View.{Sound, soundCard}
 use Rattle.regs.proofs.Checked.{card-told}
 use Rattle.card.specs.Calls.{value}
-use Rattle.card.proofs.Judged.{unsound, refuses, goes, unsound-area, refused-area, told-area}
+use Rattle.card.proofs.Judged.{fails, holds, unsound, refuses, goes, unsound-area, refused-area, told-area}
 use Rattle.card.proofs.success.Statement.{statement}
 use Rattle.card.proofs.success.Tie as tie
 
-sounds : (c : tie.Start) → length (c .args .ram .now) ≡ 8192 → length (c .args .dir .now) ≡ 1110 → soundCard (c .args .c) (c .args .ram .now) (c .args .dir .now) ≡ true
-    → Sound (c .args .c) (c .args .ram .now) (c .args .dir .now)
-sounds c r d e = card-told (c .args .c) (c .args .ram .now) (c .args .dir .now) r d e
-
 returns : tie.Need-returns
 returns c =
-    let e = sym (c .before .is-sound .ensures) ∙ not-true _ (c .if1 .taken) in
+    let e = fails (c .before .is-sound .ensures) (c .if1 .taken) in
     (unsound _ _ 10 _ _ _ _ _ e, unsound-area _ _ 10 _ _ e)
 
 returns-2 : tie.Need-returns-2
 unfolding view
 returns-2 c =
-    let e = (sym (c .before .before .before .is-sound .ensures) ∙ not-false _ (c .before .before .if1 .left)) in
-    let f = sym (c .before .is-ready .ensures _ _ _ (sounds (c .before .before .before .before .before .before .before .before) (search needs) (search needs) (sym (c .before .before .before .is-sound .ensures) ∙ not-false _ (c .before .before .if1 .left)) .held .packets)) ∙ not-true _ (c .if2 .taken) in
+    let e = holds (c .before .before .before .is-sound .ensures) (c .before .before .if1 .left) in
+    let f = fails (c .before .is-ready .ensures _ _ _ (card-told _ _ _ (search needs) (search needs) e .held .packets)) (c .if2 .taken) in
     (refuses _ _ 10 _ _ _ _ _ e f, refused-area _ _ 10 _ _ e f)
 
 sent-requires : tie.Need-sent-requires
 unfolding view
 sent-requires c κs =
-    let s = sounds (c .before .before .before .before .before .before .before .before .before .before .before) (search needs) (search needs) (sym (c .before .before .before .before .before .before .is-sound .ensures) ∙ not-false _ (c .before .before .before .before .before .if1 .left)) in
+    let s = card-told _ _ _ (search needs) (search needs) (holds (c .before .before .before .before .before .before .is-sound .ensures) (c .before .before .before .before .before .if1 .left)) in
     let l : 1792 ≤ length (c .before .before .before .before .before .before .before .before .before .before .before .args .out .now) = search needs in
-    (s, ready-some _ (c .before .before .before .before .before .before .before .before .before .before .before .args .c .transmit) _ _ (s .held .packets) (sym (c .before .before .before .before .is-ready .ensures _ _ _ (s .held .packets)) ∙ not-false _ (c .before .before .before .if2 .left)), l)
+    (s, ready-some _ (c .before .before .before .before .before .before .before .before .before .before .before .args .c .transmit) _ _ (s .held .packets) (holds (c .before .before .before .before .is-ready .ensures _ _ _ (s .held .packets)) (c .before .before .before .if2 .left)), l)
 
 returns-3 : tie.Need-returns-3
 unfolding view
 returns-3 c =
-    let e = (sym (c .before .before .before .before .before .before .before .before .is-sound .ensures) ∙ not-false _ (c .before .before .before .before .before .before .before .if1 .left)) in
-    let f = sym (c .before .before .before .before .before .before .is-ready .ensures _ _ _ (sounds (c .before .before .before .before .before .before .before .before .before .before .before .before .before) (search needs) (search needs) (sym (c .before .before .before .before .before .before .before .before .is-sound .ensures) ∙ not-false _ (c .before .before .before .before .before .before .before .if1 .left)) .held .packets)) ∙ not-false _ (c .before .before .before .before .before .if2 .left) in (
+    let e = holds (c .before .before .before .before .before .before .before .before .is-sound .ensures) (c .before .before .before .before .before .before .before .if1 .left) in
+    let f = holds (c .before .before .before .before .before .before .is-ready .ensures _ _ _ (card-told _ _ _ (search needs) (search needs) e .held .packets)) (c .before .before .before .before .before .if2 .left) in (
       goes _ _ 10 _ _ _ _ _ _ _ _ _ e f (ap value (c .before .sent .ensures .1 .count)) (c .before .sent .ensures .0),
       told-area _ _ 10 _ _ _ _ e f (c .before .sent .ensures .1),
     )

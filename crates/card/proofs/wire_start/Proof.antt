@@ -1,32 +1,25 @@
 -- `card::wire_start` meets its contract: each way of its tests is one of the paper's. Assumes nothing.
 use borrow.Author.Needs.{needs}
 use borrow.Author.Tests.{not-true, not-false}
-use mathlib.Core.Path.{_≡_, refl, sym, ap, _∙_}
-use mathlib.Core.Bool.{true}
-use lib.ListN.{length}
+use mathlib.Core.Path.{refl}
 use borrow.Author.Tests.{eqb-true}
-use Rattle.regs.specs.View.{Sound, soundCard}
 use Rattle.regs.proofs.Checked.{card-told}
-use Rattle.card.proofs.Judged.{unsound, refuses, goes}
+use Rattle.card.proofs.Judged.{fails, holds, unsound, refuses, goes}
 use Rattle.card.proofs.wire_start.Statement.{statement}
 use Rattle.card.proofs.wire_start.Tie as tie
 
-sounds : (c : tie.Start) → length (c .args .ram .now) ≡ 8192 → length (c .args .dir .now) ≡ 1110 → soundCard (c .args .c) (c .args .ram .now) (c .args .dir .now) ≡ true
-    → Sound (c .args .c) (c .args .ram .now) (c .args .dir .now)
-sounds c r d e = card-told (c .args .c) (c .args .ram .now) (c .args .dir .now) r d e
-
 returns : tie.Need-returns
-returns c = unsound _ _ 10 _ _ _ _ _ (sym (c .before .is-sound .ensures) ∙ not-true _ (c .if1 .taken))
+returns c = unsound _ _ 10 _ _ _ _ _ (fails (c .before .is-sound .ensures) (c .if1 .taken))
 
 returns-2 : tie.Need-returns-2
-returns-2 c = refuses _ _ 10 _ _ _ _ _ (sym (c .before .before .before .is-sound .ensures) ∙ not-false _ (c .before .before .if1 .left)) (not-true _ (c .if2 .taken))
+returns-2 c = refuses _ _ 10 _ _ _ _ _ (holds (c .before .before .before .is-sound .ensures) (c .before .before .if1 .left)) (not-true _ (c .if2 .taken))
 
 start-requires : tie.Need-start-requires
-start-requires c κs = (sounds (c .before .before .before .before .before .before .before .before .before .before) (search needs) (search needs) (sym (c .before .before .before .before .before .is-sound .ensures) ∙ not-false _ (c .before .before .before .before .if1 .left)), eqb-true _ _ (not-false _ (c .before .before .if2 .left)))
+start-requires c κs = (card-told _ _ _ (search needs) (search needs) (holds (c .before .before .before .before .before .is-sound .ensures) (c .before .before .before .before .if1 .left)), eqb-true _ _ (not-false _ (c .before .before .if2 .left)))
 
 returns-3 : tie.Need-returns-3
 returns-3 c =
-    goes _ _ 10 _ _ _ _ _ _ _ _ _ (sym (c .before .before .before .before .before .before .is-sound .ensures) ∙ not-false _ (c .before .before .before .before .before .if1 .left)) (not-false _ (c .before .before .before .if2 .left)) (refl) (c .start .ensures)
+    goes _ _ 10 _ _ _ _ _ _ _ _ _ (holds (c .before .before .before .before .before .before .is-sound .ensures) (c .before .before .before .before .before .if1 .left)) (not-false _ (c .before .before .before .if2 .left)) refl (c .start .ensures)
 
 pub wire-start-spec : {M : Type 1} → statement M
 wire-start-spec = tie.close (tie.spec (λ c κs. search needs) returns returns-2 start-requires returns-3)

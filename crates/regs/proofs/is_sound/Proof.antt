@@ -1,7 +1,6 @@
 -- `regs::is_sound` meets its contract: each test is a part of the definition's. Assumes nothing.
 use borrow.Author.Needs.{needs}
 use borrow.Author.Tests.{not-true, not-false}
-use native.Mathlib.Omega.{arith}
 use Rattle.regs.proofs.Checked.{no-rx, rx-yes, no-tx, tx-yes, sides-held, last-test}
 use Rattle.regs.proofs.is_sound.Statement.{statement}
 use Rattle.regs.proofs.is_sound.Tie as tie

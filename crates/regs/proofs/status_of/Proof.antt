@@ -1,5 +1,4 @@
 -- `regs::status_of` meets its contract: the window is at most 7, so that the sum fits. Assumes nothing.
-use borrow.Author.Needs.{needs}
 use native.Mathlib.Omega.{arith}
 use Rattle.regs.specs.Status.{statusOf}
 use Rattle.regs.proofs.Ranges.{window-small}

@@ -4,7 +4,8 @@ use mathlib.Core.Path.{_≡_, sym, _∙_}
 use mathlib.Core.Bool.{Bool, _&&_}
 use borrow.Author.Needs.{needs}
 use borrow.Author.Tests.{not-true, not-false}
-use Rattle.search.proofs.Outcomes.{both, unsound, outside, goes, few, named, activates}
+use Rattle.laws.proofs.Tests.{both}
+use Rattle.search.proofs.Outcomes.{unsound, outside, goes, few, named, activates}
 use Rattle.search.proofs.activate_card.Statement.{statement}
 use Rattle.search.proofs.activate_card.Tie as tie
 

@@ -9,7 +9,8 @@ use lib.Bits.{bitAnd}
 use Rattle.idport.specs.declared.IdState.{IdState}
 use Rattle.regs.specs.Update.{idWords}
 use Rattle.setup.specs.Eeprom.{writeAll}
-use Rattle.laws.proofs.UpTo.{upTo, upTo-none, upTo-turn, upTo-all}
+use Rattle.laws.specs.UpTo.{upTo}
+use Rattle.laws.proofs.UpTo.{upTo-none, upTo-turn, upTo-all}
 use Rattle.setup.proofs.write_all.Statement.{statement}
 use Rattle.setup.proofs.write_all.Tie as tie
 

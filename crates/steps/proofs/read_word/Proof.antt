@@ -1,10 +1,7 @@
 -- `steps::read_word` meets its contract: the data port takes a word, any other read changes nothing. Assumes nothing.
-use borrow.Author.Needs.{needs}
 use borrow.Author.Tests.{not-true, not-false}
 use Rattle.regs.specs.View.{view}
-use Rattle.window_read.specs.Read.{afterWord}
 use Rattle.steps.specs.Access.{ReadWord}
-use Rattle.commands.proofs.Keeps.{Keeping}
 use Rattle.steps.proofs.Keeps.{taken-keeps}
 use Rattle.steps.proofs.Ends.{unsettled, settled-as, gives-ones, gives-word, gives-data, beside-data}
 use Rattle.steps.proofs.read_word.Statement.{statement}

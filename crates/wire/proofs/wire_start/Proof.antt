@@ -11,7 +11,7 @@ use Rattle.store.specs.Store as store
 use Rattle.receive.specs.Frame.{room}
 use Rattle.receive.specs.Wire.{wireStart, begins}
 use Rattle.receive.specs.View.{rxArea, framesOf}
-use Rattle.receive.proofs.Laws.{both}
+use Rattle.laws.proofs.Tests.{both}
 use Rattle.receive.proofs.Facts.{facts}
 use Rattle.receive.proofs.Order.{place-left, room-of, room-in}
 use Rattle.receive.proofs.Steps.{step-same, step-turns}

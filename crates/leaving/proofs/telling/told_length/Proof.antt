@@ -5,7 +5,7 @@ use Prim.Native.Nat.{_/_}
 use native.Mathlib.Omega.{arith}
 use borrow.Author.Tests.{eq-eqb, ne-eqb}
 use borrow.Author.Needs.{needs}
-use Rattle.queue.specs.Leave.{has}
+use Rattle.bits.specs.Bits.{has}
 use Rattle.leaving.proofs.telling.told_length.Statement.{statement}
 use Rattle.leaving.proofs.telling.told_length.Tie as tie
 

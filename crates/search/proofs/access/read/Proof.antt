@@ -5,7 +5,8 @@ use Prim.Native.Nat.{_≤_, _-_}
 use native.Mathlib.Omega.{arith}
 use borrow.Author.Needs.{needs}
 use Rattle.idport.specs.Card.{idAfterRead}
-use Rattle.search.proofs.UpTo.{upTo, upTo-turn, upTo-ends, upTo-past}
+use Rattle.laws.specs.UpTo.{upTo}
+use Rattle.laws.proofs.UpTo.{upTo-turn, upTo-ends, upTo-past}
 use Rattle.search.proofs.Cards.{bit-narrow, heard-all}
 use Rattle.search.proofs.access.read.Statement.{statement}
 use Rattle.search.proofs.access.read.Tie as tie

@@ -6,7 +6,8 @@ use native.Mathlib.Omega.{arith}
 use borrow.Author.Needs.{needs}
 use Rattle.idport.specs.Card.{idWrite}
 use Rattle.search.specs.Port.{portWrite}
-use Rattle.search.proofs.UpTo.{upTo, upTo-turn, upTo-ends, upTo-past}
+use Rattle.laws.specs.UpTo.{upTo}
+use Rattle.laws.proofs.UpTo.{upTo-turn, upTo-ends, upTo-past}
 use Rattle.search.proofs.access.write.Statement.{statement}
 use Rattle.search.proofs.access.write.Tie as tie
 

@@ -1,0 +1,10 @@
+-- `driver_examples::send_examples` meets its contract, by computing. Assumes nothing.
+use Rattle.driver_examples.proofs.Send.{send-examples}
+use Rattle.driver_examples.proofs.send_examples.Statement.{statement}
+use Rattle.driver_examples.proofs.send_examples.Tie as tie
+
+returns : tie.Need-returns
+returns c = send-examples
+
+pub send-examples-spec : {M : Type 1} → statement M
+send-examples-spec = tie.close (tie.spec returns)

@@ -21,10 +21,11 @@ use Rattle.search.specs.Calls.{refused, told, Outcome, foundOf, activatedOf, pa
 use Rattle.search.proofs.Cards.{sound-turn}
 use Rattle.search.proofs.Outcomes.{both, outside, goes, few}
 use Rattle.lent_port.specs.declared.Listed.{Listed}
-use Rattle.lent_port.specs.declared.seats.Taken.{Taken}
-use Rattle.lent_port.specs.Lent.{lent, foundOver, activatedOver}
-use Rattle.lent_port.specs.Inner.{emptied, takenWith, foundIn, activatedIn, seatOf, listedOf}
-use Rattle.lent_port.proofs.Turns.{noCard, gone, gone-is, same-at}
+use Rattle.lent_steps.specs.declared.seats.Taken.{Taken}
+use Rattle.lent_steps.specs.Steps.{emptied, takenWith, foundIn, activatedIn, seatOf}
+use Rattle.lent_steps.proofs.Places.{same-at}
+use Rattle.lent_port.specs.Lent.{lent, foundOver, activatedOver, listedOf}
+use Rattle.lent_port.proofs.Turns.{noCard, gone, gone-is}
 use Rattle.lent_port.proofs.Slices.{fits-lent, unsound-lent, outside-lent, goes-lent, Talked, over, over-lent, searching, activating}
 
 pub record Gathered (port : ℕ) (ys : List IdState) (i : ℕ) (w : Taken) : Type 0 where

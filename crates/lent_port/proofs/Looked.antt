@@ -14,10 +14,10 @@ use Rattle.search.specs.declared.Bit.{Bit}
 use Rattle.search.specs.Port.{held, portWrite, portBit, portRead}
 use Rattle.search.specs.Calls.{Reply, refused, told, Outcome, wroteReply, bitReply, padded, allSound, allowed, digitOf, refusing, judged, ended, portWrites, portReads}
 use Rattle.search.proofs.Cards.{bit-turn, sound-turn}
-use Rattle.lent_port.specs.declared.look.Seen.{Seen}
-use Rattle.lent_port.specs.declared.look.Step.{Step}
+use Rattle.lent_steps.specs.declared.look.Seen.{Seen}
+use Rattle.lent_steps.specs.declared.look.Step.{Step}
 use Rattle.lent_port.specs.Lent.{lent, wroteOver, readOver}
-use Rattle.lent_port.specs.Inner.{unseen, seenWith, portFits, stepOf, writingOf, readingOf, writtenBy, heardBy, replyOf}
+use Rattle.lent_steps.specs.Steps.{unseen, seenWith, portFits, stepOf, writingOf, readingOf, writtenBy, heardBy, replyOf}
 use Rattle.lent_port.proofs.Turns.{gone, gone-map, map-same}
 use Rattle.lent_port.proofs.Slices.{held-lent, seated-lent, fits-lent, write-length, read-length, unsound-lent, outside-lent, goes-lent}
 

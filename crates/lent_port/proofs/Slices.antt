@@ -15,7 +15,7 @@ use Rattle.search.specs.Port.{held, rest, seated, Access, write, read, Talk, do
 use Rattle.search.specs.Search.{search, activate}
 use Rattle.search.specs.Calls.{told, Outcome, padded, allSound, allowed, refusing, judged, ended}
 use Rattle.lent_port.specs.Lent.{lent}
-use Rattle.lent_port.specs.Inner.{portFits}
+use Rattle.lent_steps.specs.Steps.{portFits}
 
 -- all the slice's cards are there
 pub held-lent : (xs : List IdState) → held (lent xs) ≡ xs

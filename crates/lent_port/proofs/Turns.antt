@@ -11,14 +11,8 @@ use lib.Seq.{ext-getD}
 use Rattle.idport.specs.declared.IdState.{IdState}
 use Rattle.idport.specs.Card.{idFresh}
 
--- past a list's end alone does it matter what stands there
 abbrev pub noCard : IdState
 noCard = idFresh []
-
-pub same-at : (xs : List IdState) (i : ℕ) (d e : IdState) → i < length xs → getD xs i d ≡ getD xs i e
-same-at [] i d e h = absurd (not-suc-le-zero h)
-same-at (x ∷ xs) zero d e h = refl
-same-at (x ∷ xs) (suc i) d e h = same-at xs i d e (le-of-suc-le-suc h)
 
 module _ (g : ℕ → IdState → IdState) where
   -- k places stand before xs

@@ -8,6 +8,7 @@ use Rattle.idport.specs.declared.IdState.{IdState}
 use Rattle.search.specs.declared.Bus.{Bus}
 use Rattle.search.specs.declared.Wrote.{Wrote}
 use Rattle.search.specs.declared.Bit.{Bit}
+use Rattle.search.specs.declared.AfterSearch.{AfterSearch}
 use Rattle.search.specs.declared.Activation.{Activation}
 use Rattle.search.specs.Port.{held}
 use Rattle.search.specs.Calls.{Outcome, wroteReply, bitReply, foundReply, activationReply, padded, portWrites, portReads, findsCards, activatesCard}
@@ -26,6 +27,10 @@ readOver r cards = record { reply = bitReply r; places = padded []; bus = lent c
 
 abbrev pub foundOver : Listed → List IdState → Outcome
 foundOver r cards = record { reply = foundReply (r .answer); places = r .addresses; bus = lent cards }
+
+-- what a search by value answers, without its bus
+abbrev pub listedOf : AfterSearch → Listed
+listedOf v = record { answer = v .answer; addresses = v .addresses }
 
 abbrev pub activatedOver : Activation → List IdState → Outcome
 activatedOver r cards = record { reply = activationReply r; places = padded []; bus = lent cards }

@@ -1,3 +1,2 @@
--- What the contracts of `lent_port` cite: the slice as a bus, and what the inner functions promise.
+-- What the contracts of `lent_port` cite: the slice as a bus.
 pub mod Lent
-pub mod Inner

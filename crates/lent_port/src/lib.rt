@@ -3,13 +3,13 @@
 // A write and a read step each card where it stands. The search and the activation take the slice into the array by value, run there, and put it back.
 ghost use mathlib.Core.Path.{_≡_};
 ghost use Rattle.search.specs.Calls.{portWrites, portReads, findsCards, activatesCard};
-ghost use Rattle.lent_port.specs.Lent.{lent, wroteOver, readOver, foundOver, activatedOver, The-same-as-by-value};
-
-mod look;
-mod seats;
+ghost use Rattle.lent_port.specs.Lent.{lent, wroteOver, readOver, foundOver, activatedOver, listedOf, The-same-as-by-value};
 
 use idport::IdState;
+use lent_steps::look;
+use lent_steps::seats;
 use search::Activation;
+use search::AfterSearch;
 use search::Bit;
 use search::Found;
 use search::Wrote;
@@ -58,6 +58,17 @@ pub struct Listed {
     pub addresses: [u64; 7],
 }
 
+fn answered(after: AfterSearch) -> Listed
+    ensures { λ r. ⌜ r ≡ listedOf after ⌝ }
+{
+    let answer = after.answer;
+    let addresses = after.addresses;
+    Listed {
+        answer: answer,
+        addresses: addresses,
+    }
+}
+
 // The search: the cards found are tagged from 1 on.
 pub fn find(cards: &mut [IdState], port: u16) -> Listed
     ensures { λ r. ⌜ foundOver r (now (cards .exit)) ≡ findsCards (lent (now (cards .entry))) port ⌝ }
@@ -74,7 +85,7 @@ pub fn find(cards: &mut [IdState], port: u16) -> Listed
         cards[j] = seats::found_at(after, j, cards[j]);
         j += 1;
     }
-    seats::find_answer(after)
+    answered(after)
 }
 
 // Activation of the card with this tag, 1 to 7, at this base number; 31 means preconfigured.

@@ -51,40 +51,40 @@ use denote.Exit.{yes}
 use Rattle.idport.specs.declared.IdState.{IdState}
 use Rattle.idport.proofs.IdState as T
 use Rattle.idport.proofs.IdState.Laws as T′
-use Rattle.lent_port.specs.declared.seats.Taken.{Taken}
+use Rattle.lent_steps.specs.declared.seats.Taken.{Taken}
 use Rattle.search.specs.declared.AfterSearch.{AfterSearch}
 use Rattle.lent_port.specs.declared.Listed.{Listed}
-use Rattle.search.specs.Calls.{findsCards, foundOf}
-use Rattle.lent_port.specs.Lent.{lent, foundOver}
-use Rattle.lent_port.specs.Inner.{emptied, takenWith, foundIn, seatOf, listedOf}
+use Rattle.search.specs.Calls.{foundOf, findsCards}
+use Rattle.lent_steps.specs.Steps.{emptied, takenWith, foundIn, seatOf}
+use Rattle.lent_port.specs.Lent.{lent, foundOver, listedOf}
 use Rattle.lent_port.proofs.Turns.{noCard as d, gone, gone-none, gone-length, gone-next}
 use Rattle.lent_port.proofs.Gathered.{Gathered, gathered-none, gathered-next, found-ends}
-use Rattle.lent_port.proofs.seats.Taken as Wk
-use Rattle.lent_port.proofs.seats.Taken.Laws as Wk′
+use Rattle.lent_steps.proofs.seats.Taken as Wk
+use Rattle.lent_steps.proofs.seats.Taken.Laws as Wk′
 use Rattle.search.proofs.AfterSearch as Vr
 use Rattle.search.proofs.AfterSearch.Laws as Vr′
 use Rattle.lent_port.proofs.Listed as Rs
 use Rattle.lent_port.proofs.Listed.Laws as Rs′
-use Rattle.lent_port.proofs.seats.empty as begin
-use Rattle.lent_port.proofs.seats.empty.Symbol as begin-def
-use Rattle.lent_port.proofs.seats.empty.Symbol.{name as #lent-port·seats·empty}
-use Rattle.lent_port.proofs.seats.empty.Met as begin-thm
-use Rattle.lent_port.proofs.seats.take as take
-use Rattle.lent_port.proofs.seats.take.Symbol as take-def
-use Rattle.lent_port.proofs.seats.take.Symbol.{name as #lent-port·seats·take}
-use Rattle.lent_port.proofs.seats.take.Met as take-thm
-use Rattle.lent_port.proofs.seats.found as perform
-use Rattle.lent_port.proofs.seats.found.Symbol as perform-def
-use Rattle.lent_port.proofs.seats.found.Symbol.{name as #lent-port·seats·found}
-use Rattle.lent_port.proofs.seats.found.Met as perform-thm
-use Rattle.lent_port.proofs.seats.found_at as give
-use Rattle.lent_port.proofs.seats.found_at.Symbol as give-def
-use Rattle.lent_port.proofs.seats.found_at.Symbol.{name as #lent-port·seats·found-at}
-use Rattle.lent_port.proofs.seats.found_at.Met as give-thm
-use Rattle.lent_port.proofs.seats.find_answer as reply
-use Rattle.lent_port.proofs.seats.find_answer.Symbol as reply-def
-use Rattle.lent_port.proofs.seats.find_answer.Symbol.{name as #lent-port·seats·find-answer}
-use Rattle.lent_port.proofs.seats.find_answer.Met as reply-thm
+use Rattle.lent_steps.proofs.seats.empty as begin
+use Rattle.lent_steps.proofs.seats.empty.Symbol as begin-def
+use Rattle.lent_steps.proofs.seats.empty.Symbol.{name as #lent-steps·seats·empty}
+use Rattle.lent_steps.proofs.seats.empty.Met as begin-thm
+use Rattle.lent_steps.proofs.seats.take as take
+use Rattle.lent_steps.proofs.seats.take.Symbol as take-def
+use Rattle.lent_steps.proofs.seats.take.Symbol.{name as #lent-steps·seats·take}
+use Rattle.lent_steps.proofs.seats.take.Met as take-thm
+use Rattle.lent_steps.proofs.seats.found as perform
+use Rattle.lent_steps.proofs.seats.found.Symbol as perform-def
+use Rattle.lent_steps.proofs.seats.found.Symbol.{name as #lent-steps·seats·found}
+use Rattle.lent_steps.proofs.seats.found.Met as perform-thm
+use Rattle.lent_steps.proofs.seats.found_at as give
+use Rattle.lent_steps.proofs.seats.found_at.Symbol as give-def
+use Rattle.lent_steps.proofs.seats.found_at.Symbol.{name as #lent-steps·seats·found-at}
+use Rattle.lent_steps.proofs.seats.found_at.Met as give-thm
+use Rattle.lent_port.proofs.answered as reply
+use Rattle.lent_port.proofs.answered.Symbol as reply-def
+use Rattle.lent_port.proofs.answered.Symbol.{name as #lent-port·answered}
+use Rattle.lent_port.proofs.answered.Met as reply-thm
 use Rattle.lent_port.proofs.find.Key.{name as #lent-port·find}
 use Rattle.lent_port.proofs.find as call
 use Rattle.lent_port.proofs.find.Statement as stated
@@ -141,11 +141,11 @@ module _ {M : Type 1} (𝓤 : URA M) (H : Heap 𝓤) (A : Atoms 𝓤) (mem : Mem
   reply-says v r = exE 𝓤 _ (λ ws. snd∗ 𝓤 (sem 𝓤 H A (lasts reply.ended tt (v, tt) ws)) (fact 𝓤 (r ≡ listedOf v)))
 
   record Known (𝓣 : Tables 𝓤 H) : Type 1 where
-    begin-known : Triple 𝓤 (𝓣 .C #lent-port·seats·empty) Begin
-    take-known : Triple 𝓤 (𝓣 .C #lent-port·seats·take) Take
-    perform-known : Triple 𝓤 (𝓣 .C #lent-port·seats·found) Perform
-    give-known : Triple 𝓤 (𝓣 .C #lent-port·seats·found-at) Give
-    reply-known : Triple 𝓤 (𝓣 .C #lent-port·seats·find-answer) Reply
+    begin-known : Triple 𝓤 (𝓣 .C #lent-steps·seats·empty) Begin
+    take-known : Triple 𝓤 (𝓣 .C #lent-steps·seats·take) Take
+    perform-known : Triple 𝓤 (𝓣 .C #lent-steps·seats·found) Perform
+    give-known : Triple 𝓤 (𝓣 .C #lent-steps·seats·found-at) Give
+    reply-known : Triple 𝓤 (𝓣 .C #lent-port·answered) Reply
 
 module _ {M : Type 1} (𝓤 : URA M) (H : Heap 𝓤) (A : Atoms 𝓤) (W : Given 𝓤 H A) (mem′ : Memory → SProp 𝓤) (run : Routine → Fun 𝓤) (κ : Lft) (q : Share) (b o : ℕ) (γ : GName) (ys : List IdState) (port : ℕ) (port-fits : port < 2 ^ 16) where
   abbrev n : ℕ
@@ -175,7 +175,7 @@ module _ {M : Type 1} (𝓤 : URA M) (H : Heap 𝓤) (A : Atoms 𝓤) (W : Given
       nothing ! $ owned ! u16 (Is u16) (uint-makes 𝓤 H A W w16) port _ (refl, port-fits) $ fjoin ! $ move ! (1 ∷ 0 ∷ []) $ fjoin ! $
       owned ! Rs.the-row (Is Rs.the-row) (LL.makes Rs.the-type Rs′.the-plain 𝓤 H A) r _ is $ move ! (1 ∷ 0 ∷ []) $ done !
 
-  abbrev to-begin : (port : ℕ)  → Begin 𝓤 H A mem′ run .Ghost
+  abbrev to-begin : (port : ℕ) → Begin 𝓤 H A mem′ run .Ghost
   to-begin port = ((tt, tt, tt, (port, tt), (vint w16 port ∷ [], tt)), tt)
 
   abbrev to-take : (w : Taken) (h : IdState) (v : Val) → Take 𝓤 H A mem′ run .Ghost
@@ -433,9 +433,9 @@ find-spec 𝓤 H 𝓜 𝓖 𝓡 =
     entered 𝓤 H (tripleOf 𝓤 H (𝓖 .A) call.signature (call.spec 𝓤 H (𝓖 .A) (𝓜 .mem) (𝓡 .run)))
     (tables 𝓤 H 𝓜 𝓡 code.env .C) (tables 𝓤 H 𝓜 𝓡 code.env .Λ) #lent-port·find code.function (code.unfolded 𝓤 H 𝓜 𝓡)
     (meets 𝓤 H (𝓖 .A) (givenOf 𝓤 H 𝓜 𝓖) (𝓜 .mem) (𝓡 .run) (tablesOf 𝓤 H 𝓜 (tables 𝓤 H 𝓜 𝓡 code.env)) (record {
-      begin-known = cited 𝓤 H (Begin 𝓤 H (𝓖 .A) (𝓜 .mem) (𝓡 .run)) 𝓜 𝓡 code.env #lent-port·seats·empty begin-def.routine code.calls-lent-port·seats·empty (begin-thm.met 𝓤 H 𝓜 𝓖 𝓡);
-      take-known = cited 𝓤 H (Take 𝓤 H (𝓖 .A) (𝓜 .mem) (𝓡 .run)) 𝓜 𝓡 code.env #lent-port·seats·take take-def.routine code.calls-lent-port·seats·take (take-thm.met 𝓤 H 𝓜 𝓖 𝓡);
-      perform-known = cited 𝓤 H (Perform 𝓤 H (𝓖 .A) (𝓜 .mem) (𝓡 .run)) 𝓜 𝓡 code.env #lent-port·seats·found perform-def.routine code.calls-lent-port·seats·found (perform-thm.met 𝓤 H 𝓜 𝓖 𝓡);
-      give-known = cited 𝓤 H (Give 𝓤 H (𝓖 .A) (𝓜 .mem) (𝓡 .run)) 𝓜 𝓡 code.env #lent-port·seats·found-at give-def.routine code.calls-lent-port·seats·found-at (give-thm.met 𝓤 H 𝓜 𝓖 𝓡);
-      reply-known = cited 𝓤 H (Reply 𝓤 H (𝓖 .A) (𝓜 .mem) (𝓡 .run)) 𝓜 𝓡 code.env #lent-port·seats·find-answer reply-def.routine code.calls-lent-port·seats·find-answer (reply-thm.met 𝓤 H 𝓜 𝓖 𝓡);
+      begin-known = cited 𝓤 H (Begin 𝓤 H (𝓖 .A) (𝓜 .mem) (𝓡 .run)) 𝓜 𝓡 code.env #lent-steps·seats·empty begin-def.routine code.calls-lent-steps·seats·empty (begin-thm.met 𝓤 H 𝓜 𝓖 𝓡);
+      take-known = cited 𝓤 H (Take 𝓤 H (𝓖 .A) (𝓜 .mem) (𝓡 .run)) 𝓜 𝓡 code.env #lent-steps·seats·take take-def.routine code.calls-lent-steps·seats·take (take-thm.met 𝓤 H 𝓜 𝓖 𝓡);
+      perform-known = cited 𝓤 H (Perform 𝓤 H (𝓖 .A) (𝓜 .mem) (𝓡 .run)) 𝓜 𝓡 code.env #lent-steps·seats·found perform-def.routine code.calls-lent-steps·seats·found (perform-thm.met 𝓤 H 𝓜 𝓖 𝓡);
+      give-known = cited 𝓤 H (Give 𝓤 H (𝓖 .A) (𝓜 .mem) (𝓡 .run)) 𝓜 𝓡 code.env #lent-steps·seats·found-at give-def.routine code.calls-lent-steps·seats·found-at (give-thm.met 𝓤 H 𝓜 𝓖 𝓡);
+      reply-known = cited 𝓤 H (Reply 𝓤 H (𝓖 .A) (𝓜 .mem) (𝓡 .run)) 𝓜 𝓡 code.env #lent-port·answered reply-def.routine code.calls-lent-port·answered (reply-thm.met 𝓤 H 𝓜 𝓖 𝓡);
     }))

@@ -1,8 +1,8 @@
 -- A bus by value and the slice of its cards come to the same: the refusals go by the same tests, and a talk is over the same cards.
 -- Assumes nothing.
-use Prim.Native.Nat.{ℕ, _/_, _%_, _≤_, min}
+use Prim.Native.Nat.{ℕ, _/_, _%_, _≤_}
 use mathlib.Core.Path.{_≡_, refl, sym, ap, _∙_}
-use mathlib.Core.Bool.{Bool, true, false, cond, _&&_}
+use mathlib.Core.Bool.{Bool, true, false, _&&_}
 use mathlib.Core.List.{List}
 use native.Mathlib.Omega.{arith}
 use lib.Dec.{leb, eqb}
@@ -10,8 +10,8 @@ use lib.ListN.{length, length-take}
 use lib.Seq.{take-at}
 use Rattle.idport.specs.declared.IdState.{IdState}
 use Rattle.search.specs.declared.Bus.{Bus}
-use Rattle.search.specs.Port.{held, rest, seated}
-use Rattle.search.specs.Calls.{refused, told, padded, Outcome, allSound, allowed, naming, digitOf, refusing, judged}
+use Rattle.search.specs.Port.{held, rest}
+use Rattle.search.specs.Calls.{told, padded, Outcome, allSound, allowed, naming, digitOf, refusing, judged}
 use Rattle.search.proofs.Outcomes.{unsound, outside, goes}
 use Rattle.lent_port.specs.Lent.{lent, Alike, The-same-as-by-value}
 use Rattle.lent_port.proofs.Slices.{held-lent, unsound-lent, outside-lent, goes-lent, Talked, over, writing, reading, searching, activating}

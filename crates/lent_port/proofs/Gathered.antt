@@ -6,8 +6,8 @@ use mathlib.Core.Bool.{Bool, true, false, cond, _&&_}
 use mathlib.Core.List.{List, [], _∷_, _++_}
 use native.Mathlib.Omega.{arith}
 use native.Mathlib.Numerals.{add-one}
-use lib.Dec.{leb, ltb}
-use lib.ListN.{length, take, drop, getD, set, length-set, length-take, List·getD-eq-default, List·getD-append}
+use lib.Dec.{ltb}
+use lib.ListN.{length, take, getD, set, length-set, List·getD-eq-default, List·getD-append}
 use lib.Seq.{take-all, take-suc, take-suc-set, getD-take, set-out}
 use borrow.Author.Tests.{ltb-true, ltb-false}
 use Rattle.idport.specs.declared.IdState.{IdState}

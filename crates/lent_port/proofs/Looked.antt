@@ -11,8 +11,8 @@ use Rattle.idport.specs.declared.IdState.{IdState}
 use Rattle.idport.specs.Card.{idWrite, idBit, idAfterRead}
 use Rattle.search.specs.declared.Wrote.{Wrote}
 use Rattle.search.specs.declared.Bit.{Bit}
-use Rattle.search.specs.Port.{held, portWrite, portBit, portRead}
-use Rattle.search.specs.Calls.{Reply, refused, told, Outcome, wroteReply, bitReply, padded, allSound, allowed, digitOf, refusing, judged, ended, portWrites, portReads}
+use Rattle.search.specs.Port.{portWrite, portBit, portRead}
+use Rattle.search.specs.Calls.{Reply, refused, told, wroteReply, bitReply, padded, allSound, allowed, digitOf, judged, ended, portWrites, portReads}
 use Rattle.search.proofs.Cards.{bit-turn, sound-turn}
 use Rattle.lent_steps.specs.declared.look.Seen.{Seen}
 use Rattle.lent_steps.specs.declared.look.Step.{Step}

@@ -4,7 +4,6 @@
 ghost use mathlib.Core.Path.{_≡_};
 ghost use Rattle.search.specs.Calls.{portWrites, portReads, findsCards, activatesCard};
 ghost use Rattle.lent_port.specs.Lent.{lent, wroteOver, readOver, foundOver, activatedOver, listedOf, The-same-as-by-value};
-
 use idport::IdState;
 use lent_steps::look;
 use lent_steps::seats;

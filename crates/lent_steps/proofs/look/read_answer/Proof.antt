@@ -1,7 +1,6 @@
 -- `read_answer` meets its contract: the tests go down the refusals in order.
 -- Assumes nothing.
 use borrow.Author.Tests.{not-true, not-false}
-use borrow.Author.Needs.{needs}
 use Rattle.lent_steps.proofs.look.read_answer.Statement.{statement}
 use Rattle.lent_steps.proofs.look.read_answer.Tie as tie
 

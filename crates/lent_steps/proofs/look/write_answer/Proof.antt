@@ -1,7 +1,6 @@
 -- `write_answer` meets its contract: the tests go down the refusals in order.
 -- Assumes nothing.
 use borrow.Author.Tests.{not-true, not-false}
-use borrow.Author.Needs.{needs}
 use Rattle.lent_steps.proofs.look.write_answer.Statement.{statement}
 use Rattle.lent_steps.proofs.look.write_answer.Tie as tie
 

@@ -28,12 +28,12 @@ readOver r cards = record { reply = bitReply r; places = padded []; bus = lent c
 abbrev pub foundOver : Listed → List IdState → Outcome
 foundOver r cards = record { reply = foundReply (r .answer); places = r .addresses; bus = lent cards }
 
+abbrev pub activatedOver : Activation → List IdState → Outcome
+activatedOver r cards = record { reply = activationReply r; places = padded []; bus = lent cards }
+
 -- what a search by value answers, without its bus
 abbrev pub listedOf : AfterSearch → Listed
 listedOf v = record { answer = v .answer; addresses = v .addresses }
-
-abbrev pub activatedOver : Activation → List IdState → Outcome
-activatedOver r cards = record { reply = activationReply r; places = padded []; bus = lent cards }
 
 -- Two outcomes with the same answer, the same places and the same cards there.
 pub record Alike (o u : Outcome) : Type 0 where

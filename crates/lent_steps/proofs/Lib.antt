@@ -1,0 +1,2 @@
+-- Laws that the proofs of `lent_steps` cite.
+pub mod Places

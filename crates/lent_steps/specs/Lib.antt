@@ -1,0 +1,2 @@
+-- What the contracts of `lent_steps` cite.
+pub mod Steps

@@ -6,6 +6,7 @@ ghost use Rattle.outcomes.specs.View.{stack as stackOf, reportsOf, Stack
 mod stack; // stack.rt: the status stack
 
 // `level`: the TX Available threshold; `start`: the TX Start threshold.
+#[repr(C)]
 pub struct Sender {
     pub on: bool,
     pub available: bool,
@@ -14,11 +15,13 @@ pub struct Sender {
 }
 
 // The status stack, oldest first: the first `count` of 31 entries.
+#[repr(C)]
 pub struct Statuses {
     pub entries: [u8; 31],
     pub count: usize,
 }
 
+#[repr(C)]
 pub struct Outcomes {
     pub sender: Sender,
     pub statuses: Statuses,

@@ -17,6 +17,7 @@ use receive::Receiver;
 use transmit::Transmit;
 
 // The window, the interrupt mask, the Read Zero mask and the RX filter.
+#[repr(C)]
 pub struct Select {
     pub window: u16,
     pub mask: u16,
@@ -25,6 +26,7 @@ pub struct Select {
 }
 
 // The Interrupt Latch, Interrupt Requested, and the low byte held of a command.
+#[repr(C)]
 pub struct Lines {
     pub latch: bool,
     pub requested: bool,
@@ -32,6 +34,7 @@ pub struct Lines {
 }
 
 // What was loaded from the EEPROM (words 03h, 09h, 12h and 13h), the ENA bit, and the station address.
+#[repr(C)]
 pub struct Config {
     pub product: u16,
     pub resource: u16,
@@ -42,11 +45,13 @@ pub struct Config {
 }
 
 // The last EEPROM command, and whether erasing and writing is enabled.
+#[repr(C)]
 pub struct Prom {
     pub last: u8,
     pub writable: bool,
 }
 
+#[repr(C)]
 pub struct Card {
     pub id: IdState,
     pub select: Select,

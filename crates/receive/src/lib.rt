@@ -99,7 +99,7 @@ fn in_order(ram: &[u8], dir: &[u16], size: usize, count: usize, storing: bool) -
 }
 
 // Whether RX Early was set for the oldest frame if it is due, and for no other.
-fn early_settled(ram: &[u8], dir: &[u16], size: usize, count: usize, r: Receiver) -> bool
+pub fn early_settled(ram: &[u8], dir: &[u16], size: usize, count: usize, r: Receiver) -> bool
     requires { ⌜ store.Sound (rxArea size) count (now ram) (now dir) ⌝ }
     ensures { λ o. ⌜ o ≡ earlySettled r (framesOf size count (now (ram .entry)) (now (dir .entry))) ⌝ }
 {

@@ -10,6 +10,7 @@ pub mod sequence;
 mod wait;
 
 // A card on the ID port. In ID_WAIT (`command` is false) it listens for the sequence at the port that a zero chose; in ID_CMD it obeys.
+#[repr(C)]
 pub struct IdState {
     pub command: bool,
     // x of port 1x0h, 16 for none.

@@ -7,6 +7,7 @@ use statuses::Statuses;
 mod stack; // stack.rt: what is pushed on the status stack
 
 // `level`: the TX Available threshold; `start`: the TX Start threshold.
+#[repr(C)]
 pub struct Sender {
     pub on: bool,
     pub available: bool,
@@ -14,6 +15,7 @@ pub struct Sender {
     pub start: u16,
 }
 
+#[repr(C)]
 pub struct Outcomes {
     pub sender: Sender,
     pub statuses: Statuses,

@@ -11,6 +11,7 @@ mod good; // good.rt: the tests of soundness
 mod words; // words.rt: a word of data for the packet being written
 
 // `packets`: how many are whole; `words`: how many have come of the one being written.
+#[repr(C)]
 pub struct Fifo {
     pub failed: bool,
     pub packets: usize,

@@ -10,6 +10,7 @@ ghost use Rattle.receive.specs.View.{rxArea, framesOf, rxOf, Packed, Ste
 
 // `early`: RX Early stands; `told`: it was set for the oldest frame; `read`: the bytes read of the oldest frame.
 // `wire`: 0 no frame on the wire, 1 the frame on the wire is ignored to its end, 2 it is stored.
+#[repr(C)]
 pub struct Receiver {
     pub on: bool,
     pub failed: bool,
@@ -21,6 +22,7 @@ pub struct Receiver {
 }
 
 // The registers, and how many frames are stored.
+#[repr(C)]
 pub struct Receive {
     pub receiver: Receiver,
     pub frames: usize,
@@ -97,7 +99,7 @@ fn in_order(ram: &[u8], dir: &[u16], size: usize, count: usize, storing: bool) -
 }
 
 // Whether RX Early was set for the oldest frame if it is due, and for no other.
-fn early_settled(ram: &[u8], dir: &[u16], size: usize, count: usize, r: Receiver) -> bool
+pub fn early_settled(ram: &[u8], dir: &[u16], size: usize, count: usize, r: Receiver) -> bool
     requires { ⌜ store.Sound (rxArea size) count (now ram) (now dir) ⌝ }
     ensures { λ o. ⌜ o ≡ earlySettled r (framesOf size count (now (ram .entry)) (now (dir .entry))) ⌝ }
 {

@@ -4,6 +4,7 @@ use mathlib.Core.Bool.{Bool, true, false, not, _&&_, _||_}
 use mathlib.Core.List.{List}
 use Prim.Native.Nat.{ℕ, _%_}
 use native.Mathlib.Omega.{arith}
+use lib.Dec.{eqb}
 use lib.ListN.{length}
 use Rattle.laws.proofs.Tests.{both, join}
 use Rattle.idport.specs.Sound.{idSound}
@@ -17,7 +18,12 @@ use Rattle.regs.specs.Status.{flags, interrupting}
 use Rattle.regs.specs.Sound.{selectSound, registersSound, latchSettled}
 use Rattle.regs.specs.View.{rxSizeOf, txSizeOf, view, Held, Sound, soundCard}
 use Rattle.regs.proofs.Ranges.{rx-small, tx-small}
+use Rattle.regs.proofs.Quiet.{latch-quiet}
 use Rattle.regs.proofs.Sides.{registers-of, latch-of, sound-by, rx-sound, tx-sound}
+
+with-true : (b : Bool) → (b && true) ≡ b
+with-true true = refl
+with-true false = refl
 
 module _ (c : Card) (ram dir : List ℕ) where
   abbrev rxTest : Bool
@@ -55,6 +61,14 @@ module _ (c : Card) (ram dir : List ℕ) where
       let R = side-told (rxSizeOf c) (c .receive) ram dir (rx-small (c .config .second % 4)) (omega arith) (omega arith) x in
       let T = side-sound (txSizeOf c) (c .transmit) ram dir (tx-small (c .config .second % 4)) (omega arith) (omega arith) y in
       (record { ram-long = r; dir-long = d; frames = R .packed; packets = T .packed; statuses = T .stacked }, R)
+
+  -- the latch stands, or no interrupt is enabled
+  pub short-test : (id select : Bool) → rxTest ≡ true → txTest ≡ true → id ≡ idSound (c .id) → select ≡ selectSound (c .select) → (c .lines .latch || eqb (c .select .mask) 0) ≡ true
+      → (id && (not (c .id .due) && select)) ≡ soundCard c ram dir
+  unfolding soundCard view
+  short-test id select x y ei es q =
+      let l : latchSettled (view c ram dir) ≡ true = latch-quiet (c .lines .latch) (c .select) (flags (view c ram dir)) q in
+      rw (x, y, l, ei, es) (sym (with-true (idSound (c .id) && (not (c .id .due) && selectSound (c .select)))))
 
   pub last-test : (f : Flags) (id select interrupts : Bool) → rxTest ≡ true → txTest ≡ true → f ≡ flags (view c ram dir) → id ≡ idSound (c .id) → select ≡ selectSound (c .select)
       → interrupts ≡ interrupting (c .select) f

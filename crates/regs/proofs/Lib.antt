@@ -4,4 +4,5 @@ pub mod Blank
 pub mod Join
 pub mod Sides
 pub mod Ends
+pub mod Quiet
 pub mod Checked

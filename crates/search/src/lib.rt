@@ -11,6 +11,7 @@ use idport::IdState;
 use refusal::Refusal;
 
 // Up to eight cards, of which the first `count` are there.
+#[repr(C)]
 pub struct Bus {
     pub cards: [IdState; 8],
     pub count: usize,

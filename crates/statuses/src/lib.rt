@@ -2,6 +2,7 @@
 ghost use Rattle.statuses.specs.Stack.{stack, Room, Few, Stacks, added, rest};
 
 // The first `count` of 31 entries are the statuses.
+#[repr(C)]
 pub struct Statuses {
     pub entries: [u8; 31],
     pub count: usize,

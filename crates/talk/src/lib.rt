@@ -32,6 +32,7 @@ pub const READ_ZERO: u16 = 15 * 2048;
 pub const RX_FILTER: u16 = 16 * 2048;
 
 // Whether the driver was opened, the packets sent modulo 65,536, those of them unreported, and an error seen since the last TX Enable.
+#[repr(C)]
 pub struct Driver {
     pub opened: bool,
     pub sent: u16,

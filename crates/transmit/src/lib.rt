@@ -13,6 +13,7 @@ ghost use Rattle.transmit.specs.View.{txOf, Sound, Unsettled, Step, Is, 
 use outcomes::Outcomes;
 use queue::Fifo;
 
+#[repr(C)]
 pub struct Transmit {
     pub fifo: Fifo,
     pub outcomes: Outcomes,

@@ -1,18 +1,19 @@
--- `regs::settle` meets its contract, by the law `settles`. Assumes nothing.
-use borrow.Author.Needs.{needs}
-use Rattle.regs.proofs.Ends.{settles}
+-- `regs::settle` meets its contract: where nothing is due the card stands as it is. Assumes nothing.
+use Rattle.regs.proofs.Quiet.{stands-quiet}
 use Rattle.regs.proofs.settle.Statement.{statement}
 use Rattle.regs.proofs.settle.Tie as tie
 
-settle-sides-requires : tie.Need-settle-sides-requires
-settle-sides-requires c κs = c .before .before .pre
-
-flags-of-requires : tie.Need-flags-of-requires
-flags-of-requires c κs = (c .settle-sides .ensures .held, c .settle-sides .ensures .rx-sound)
+is-quiet-requires : tie.Need-is-quiet-requires
+is-quiet-requires c κs = c .before .before .pre
 
 returns : tie.Need-returns
-returns c =
-    settles _ _ _ _ _ _ (c .before .before .before .before .before .before .before .pre .1) (c .before .before .before .before .settle-sides .ensures) (c .before .before .before .flags-of .ensures) (c .before .before .interrupts .ensures)
+returns c = let s = c .before .before .before .before in stands-quiet (s .args .c) _ _ (s .pre .0) (s .pre .1) (c .before .is-quiet .ensures (c .if1 .taken))
+
+settle-all-requires : tie.Need-settle-all-requires
+settle-all-requires c κs = c .before .before .before .before .pre
+
+returns-2 : tie.Need-returns-2
+returns-2 c = c .settle-all .ensures
 
 pub settle-spec : {M : Type 1} → statement M
-settle-spec = tie.close (tie.spec settle-sides-requires flags-of-requires (λ c κs. search needs) returns)
+settle-spec = tie.close (tie.spec is-quiet-requires returns settle-all-requires returns-2)

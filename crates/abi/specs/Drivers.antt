@@ -1,0 +1,24 @@
+-- The driver's calls: some result x meets the contract of the public call, and r is x in numbers. That contract determines x. Assumes nothing.
+use mathlib.Core.Path.{_≡_}
+use mathlib.Core.List.{List}
+use Prim.Native.Nat.{ℕ}
+use Rattle.regs.specs.declared.Card.{Card}
+use Rattle.talk.specs.declared.Driver.{Driver}
+use Rattle.opening.specs.declared.Opened.{Opened}
+use Rattle.sending.specs.declared.Sent.{Sent}
+use Rattle.service.specs.declared.Serviced.{Serviced}
+use Rattle.driver.specs.Calls as call
+use Rattle.abi.specs.declared.drivers.DriverDone.{DriverDone}
+use Rattle.abi.specs.declared.drivers.DriverSent.{DriverSent}
+use Rattle.abi.specs.declared.drivers.DriverServed.{DriverServed}
+use Rattle.abi.specs.Codes.{codedOpened, codedSent, codedServed}
+
+abbrev pub Opens : Card → List ℕ → List ℕ → Driver → ℕ → ℕ → ℕ → DriverDone → List ℕ → List ℕ → Type 0
+Opens c ram dir d w₀ w₁ w₂ r ram′ dir′ = (x : Opened) × ((r ≡ codedOpened x) × call.Opens c ram dir d w₀ w₁ w₂ x ram′ dir′)
+
+abbrev pub Sends : Card → List ℕ → List ℕ → Driver → List ℕ → DriverSent → List ℕ → List ℕ → Type 0
+Sends c ram dir d packet r ram′ dir′ = (x : Sent) × ((r ≡ codedSent x) × call.Sends c ram dir d packet x ram′ dir′)
+
+abbrev pub Services : Card → List ℕ → List ℕ → Driver → ℕ → List ℕ → List ℕ → DriverServed → List ℕ → List ℕ → List ℕ → List ℕ → Type 0
+Services c ram dir d budget ahead frame r ram′ dir′ ahead′ frame′ =
+    (x : Serviced) × ((r ≡ codedServed x) × call.Services c ram dir d budget ahead frame x ram′ dir′ ahead′ frame′)

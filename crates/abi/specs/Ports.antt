@@ -1,0 +1,16 @@
+-- Several cards on one ID port: some result x meets the contract of the public call, and r is x in numbers. That contract determines x. Assumes nothing.
+use mathlib.Core.Path.{_≡_}
+use Prim.Native.Nat.{ℕ}
+use Rattle.search.specs.declared.Bus.{Bus}
+use Rattle.search.specs.declared.AfterSearch.{AfterSearch}
+use Rattle.search.specs.declared.AfterActivation.{AfterActivation}
+use Rattle.search.specs.Calls.{foundOf, activatedOf, findsCards, activatesCard}
+use Rattle.abi.specs.declared.ports.BusFound.{BusFound}
+use Rattle.abi.specs.declared.ports.BusDone.{BusDone}
+use Rattle.abi.specs.Codes.{codedFound, codedActivated}
+
+abbrev pub Finds : Bus → ℕ → BusFound → Type 0
+Finds b port r = (x : AfterSearch) × ((r ≡ codedFound x) × (foundOf x ≡ findsCards b port))
+
+abbrev pub Activates : Bus → ℕ → ℕ → ℕ → BusDone → Type 0
+Activates b port tag base r = (x : AfterActivation) × ((r ≡ codedActivated x) × (activatedOf x ≡ activatesCard b port tag base))

@@ -1,0 +1,695 @@
+//! The archive against the independent model: long random runs, sensible and hostile; every answer,
+//! both areas and every register are compared. SEAMTROUT_STEPS sets the steps (a million by default
+//! with optimisation), SEAMTROUT_SEED the run.
+
+// `both!` compares the answers; what they are is of no further use.
+#![allow(unused_must_use)]
+
+use seamtrout::model::{self, Model};
+use seamtrout::{Seamtrout, Service};
+
+/// Marsaglia's xorshift.
+struct Random(u64);
+
+impl Random {
+    fn next(&mut self) -> u64 {
+        self.0 ^= self.0 << 13;
+        self.0 ^= self.0 >> 7;
+        self.0 ^= self.0 << 17;
+        self.0.wrapping_mul(0x2545_F491_4F6C_DD1D) >> 16
+    }
+    fn below(&mut self, n: u64) -> u64 {
+        self.next() % n
+    }
+    fn one_in(&mut self, n: u64) -> bool {
+        self.below(n) == 0
+    }
+    fn word(&mut self) -> u16 {
+        match self.below(8) {
+            0 => 0,
+            1 => 0xFFFF,
+            2 => self.below(16) as u16,
+            3 => 1 << self.below(16),
+            _ => self.next() as u16,
+        }
+    }
+    fn byte(&mut self) -> u8 {
+        self.word() as u8
+    }
+    fn words(&mut self) -> [u16; 64] {
+        let mut w = [0; 64];
+        w.iter_mut().for_each(|x| *x = self.word());
+        w
+    }
+}
+
+/// For a match arm whose answer was compared already.
+fn done<T>(_: T) {}
+
+/// How often each refusal came, by both; and each answer of a service.
+#[derive(Clone, Default)]
+struct Tally {
+    calls: u64,
+    refusals: [u64; 14],
+    reports: u64,
+    statuses: u64,
+    frames: [u64; 2],
+    idle: u64,
+    codes: [u64; 8],
+    /// Full status stacks.
+    full: u64,
+}
+
+impl Tally {
+    fn shown(&self) -> String {
+        format!(
+            "refusals {:?}, reports {}, statuses {}, frames {:?}, idle {}, codes {:?}, full {}",
+            self.refusals, self.reports, self.statuses, self.frames, self.idle, self.codes, self.full
+        )
+    }
+}
+
+/// The refusal in an answer, 0 for none.
+trait Refused {
+    fn refused(&self) -> u8 {
+        0
+    }
+}
+
+impl<T> Refused for Result<T, u8> {
+    fn refused(&self) -> u8 {
+        self.as_ref().err().copied().unwrap_or(0)
+    }
+}
+
+impl Refused for bool {}
+impl Refused for u8 {}
+
+fn number(name: &str, or: u64) -> u64 {
+    std::env::var(name).ok().and_then(|v| v.parse().ok()).unwrap_or(or)
+}
+
+fn steps(or: u64) -> u64 {
+    number("SEAMTROUT_STEPS", if cfg!(debug_assertions) { or / 10 } else { or })
+}
+
+const PORT: u16 = 0x110;
+const STATION: [u8; 6] = [0x00, 0x20, 0xAF, 0xC4, 0x12, 0xE5];
+const NODE: [u16; 3] = [0x0020, 0xAFC4, 0x12E5];
+
+/// A call on the archive and on the model.
+struct Pair {
+    proved: Seamtrout,
+    model: Model,
+    /// The calls so far, for the report of a difference.
+    told: Vec<String>,
+    tally: Tally,
+}
+
+macro_rules! both {
+    ($pair:expr, $($call:tt)*) => {{
+        $pair.told.push(stringify!($($call)*).to_string());
+        let a = $pair.proved.$($call)*;
+        let b = $pair.model.$($call)*;
+        if a != b {
+            $pair.differs(&format!("{} gives {:?}, the model {:?}", stringify!($($call)*), a, b));
+        }
+        $pair.tally.calls += 1;
+        $pair.tally.refusals[Refused::refused(&a) as usize] += 1;
+        a
+    }};
+}
+
+impl Pair {
+    fn new(words: [u16; 64], tally: Tally) -> Pair {
+        Pair { proved: Seamtrout::power_on(words), model: Model::power_on(words), told: Vec::new(), tally }
+    }
+
+    fn differs(&self, what: &str) -> ! {
+        let from = self.told.len().saturating_sub(60);
+        for call in &self.told[from..] {
+            eprintln!("  {call}");
+        }
+        eprintln!("  {:?}\n  {:?}", self.proved.card(), self.proved.driver());
+        panic!("{what}")
+    }
+
+    fn say(&mut self, what: String) {
+        self.told.push(what);
+        if self.told.len() > 4000 {
+            self.told.drain(..2000);
+        }
+    }
+
+    fn copy(&self) -> Pair {
+        let from = self.told.len().saturating_sub(60);
+        Pair {
+            proved: self.proved.clone(),
+            model: self.model.clone(),
+            told: self.told[from..].to_vec(),
+            tally: self.tally.clone(),
+        }
+    }
+
+    /// What shows without a step: the card's lines, and Status.
+    fn glance(&mut self) {
+        both!(self, active());
+        both!(self, base());
+        both!(self, latch());
+        both!(self, read_word(0x0E));
+        self.told.truncate(self.told.len() - 4);
+    }
+
+    fn activate(&mut self) {
+        for b in [0, 0].into_iter().chain(model::SEQUENCE).chain([0xFF]) {
+            both!(self, id_write(PORT, b));
+        }
+    }
+
+    /// Every register of every window, on copies; a sleeping card is woken there first.
+    fn sweep(&mut self) {
+        let mut c = self.copy();
+        if !c.proved.active() {
+            for port in (0x100..0x200).step_by(0x10) {
+                both!(c, id_drives(port));
+            }
+            for b in [0, 0].into_iter().chain(model::SEQUENCE).chain([0xFF]) {
+                for port in (0x100..0x200).step_by(0x10) {
+                    both!(c, id_write(port, b));
+                }
+            }
+        }
+        for window in 0..8u16 {
+            both!(c, write_word(0x0E, 1 << 11 | window));
+            for offset in 0..16 {
+                if window != 1 || offset >= 4 {
+                    both!(c, read_byte(offset));
+                }
+            }
+        }
+        both!(c, write_word(0x0E, 1 << 11 | 1));
+        for _ in 0..6 {
+            both!(c, read_word(0x02));
+        }
+        c.glance();
+        while c.proved.read_byte(0x0B) != Ok(0) {
+            both!(c, read_byte(0x0B));
+            both!(c, write_byte(0x0B, 0));
+        }
+        both!(c, read_byte(0x0B));
+        both!(c, write_word(0x0E, 9 << 11));
+        while c.proved.sent().is_ok() {
+            if c.model.sent().is_err() {
+                c.differs("a packet that the model does not have");
+            }
+        }
+        both!(c, sent());
+        // Frame by frame; a receive failure keeps the oldest.
+        both!(c, write_word(0x0E, 1 << 11 | 1));
+        for _ in 0..8 {
+            let status = both!(c, read_word(0x08)).unwrap();
+            if status & 0xC000 == 0x4000 {
+                c.tally.codes[(status >> 11 & 7) as usize] += 1;
+            }
+            both!(c, write_word(0x0E, 8 << 11));
+        }
+        self.tally = c.tally;
+    }
+
+    fn service(&mut self, r: &mut Random) {
+        let budget = match r.below(6) {
+            0 => r.below(12) as u16,
+            1 => r.next() as u16,
+            2 => 760,
+            _ => 2000,
+        };
+        let (look, area) = match r.below(12) {
+            0 => (r.below(300) as usize, r.below(1600) as usize),
+            1 => (256, 1600),
+            _ => (256, 1514),
+        };
+        let fill = r.byte();
+        let (mut la, mut fa) = (vec![fill; look], vec![fill; area]);
+        let (mut lb, mut fb) = (vec![fill; look], vec![fill; area]);
+        self.say(format!("service({budget}) with areas of {look} and {area}"));
+        let (a, used) = self.proved.service(budget, &mut la, &mut fa);
+        let a = match a {
+            Service::Report { ticket, status } => model::Service::Report { ticket, status },
+            Service::Status(s) => model::Service::Status(s),
+            Service::Frame(f) => model::Service::Frame(f.to_vec()),
+            Service::Idle => model::Service::Idle,
+            Service::Refused(n) => model::Service::Refused(n),
+        };
+        let (b, taken) = self.model.service(budget, &mut lb, &mut fb);
+        // No refusal but 6 tells a count.
+        let counted = !matches!(a, model::Service::Refused(n) if n != 6);
+        if a != b || (counted && used != taken) {
+            self.differs(&format!("{a:?} by {used}, the model {b:?} by {taken}"));
+        }
+        if la != lb || fa != fb {
+            self.differs("the areas differ");
+        }
+        let t = &mut self.tally;
+        t.calls += 1;
+        match a {
+            model::Service::Report { .. } => t.reports += 1,
+            model::Service::Status(_) => t.statuses += 1,
+            model::Service::Frame(f) => t.frames[(f.len() > 256) as usize] += 1,
+            model::Service::Idle => t.idle += 1,
+            model::Service::Refused(n) => t.refusals[n as usize] += 1,
+        }
+    }
+
+    /// A frame on the wire, whole, cut or too long.
+    fn frame(&mut self, r: &mut Random) {
+        let n = match r.below(10) {
+            0 => 8 + r.below(60) as usize,
+            1 => 1500 + r.below(40) as usize,
+            2 => 1780 + r.below(40) as usize,
+            3 => 60 + r.below(8) as usize,
+            4 => 252 + r.below(8) as usize,
+            _ => 60 + r.below(600) as usize,
+        };
+        let mut first = [0; 8];
+        first.iter_mut().for_each(|b| *b = r.byte());
+        match r.below(8) {
+            0 => {}
+            1 => first[..6].fill(0xFF),
+            2 => first[0] |= 1,
+            _ => first[..6].copy_from_slice(&STATION),
+        }
+        both!(self, wire_start(first));
+        for i in 8..n {
+            let b = (i as u64 ^ r.0) as u8;
+            self.say(format!("wire_byte({b})"));
+            let (x, y) = (self.proved.wire_byte(b), self.model.wire_byte(b));
+            if x != y {
+                self.differs(&format!("wire_byte gives {x:?}, the model {y:?}"));
+            }
+            self.tally.calls += 1;
+            if r.one_in(500) {
+                self.host(r);
+                self.glance();
+            }
+        }
+        let (check, alignment) = (!r.one_in(5), !r.one_in(6));
+        both!(self, wire_end(check, alignment));
+    }
+
+    fn send(&mut self, r: &mut Random) {
+        let n = match r.below(8) {
+            0 => r.below(20) as usize,
+            1 => 1505 + r.below(15) as usize,
+            2 => 55 + r.below(10) as usize,
+            _ => 14 + r.below(500) as usize,
+        };
+        let fill = r.next();
+        let packet: Vec<u8> = (0..n).map(|i| (i as u64 ^ fill) as u8).collect();
+        self.say(format!("send of {n} bytes"));
+        both!(self, send(&packet));
+    }
+
+    /// A sensible access of the host.
+    fn host(&mut self, r: &mut Random) {
+        match r.below(10) {
+            0 => done(both!(self, read_word(0x00))),
+            1 => done(both!(self, read_word(0x08))),
+            2 => done(both!(self, read_word(0x0C))),
+            3 => done(both!(self, read_byte(0x0B))),
+            4 => done(both!(self, write_byte(0x0B, 0))),
+            5 => done(both!(self, write_word(0x0E, 8 << 11))),
+            6 => {
+                let n = r.below(2048) as u16;
+                let threshold = (17 + r.below(3) as u16) << 11;
+                both!(self, write_word(0x0E, threshold | n)).unwrap()
+            }
+            7 => {
+                let bits = r.below(256) as u16;
+                both!(self, write_word(0x0E, 13 << 11 | bits)).unwrap()
+            }
+            8 => {
+                let mask = (14 + r.below(2) as u16) << 11 | r.byte() as u16;
+                both!(self, write_word(0x0E, mask)).unwrap()
+            }
+            _ => {
+                let on = [4, 9, 4, 9, 4, 9, 3, 10, 5, 11, 12][r.below(11) as usize];
+                both!(self, write_word(0x0E, on << 11)).unwrap()
+            }
+        }
+    }
+
+    /// A packet as the host writes it, by hand.
+    fn written(&mut self, r: &mut Random) {
+        let n = match r.below(6) {
+            0 => r.word(),
+            1 => r.below(10) as u16,
+            _ => 6 + r.below(300) as u16,
+        };
+        let first = n & 0x7FF | (r.below(8) as u16) << 13 | (r.below(4) as u16) << 11;
+        both!(self, write_word(0x00, first));
+        both!(self, write_word(0x02, 0));
+        let words = (u64::from(n & 0x7FF) + 3) / 4 * 2;
+        for _ in 0..if r.one_in(5) { r.below(words + 3) } else { words } {
+            let v = r.next() as u16;
+            both!(self, write_word(0x00, v));
+        }
+    }
+
+    /// Both resets and an open: what a host does after a failure.
+    fn recover(&mut self) {
+        for command in [1 << 11 | 1, 5 << 11, 11 << 11] {
+            both!(self, write_word(0x0E, command));
+        }
+        both!(self, open(NODE));
+    }
+
+    /// Small packets go out unserviced, until the status stack is full.
+    fn flood(&mut self, r: &mut Random) {
+        let clean = r.one_in(2);
+        for _ in 0..r.below(50) {
+            let n = 6 + r.below(20) as u16;
+            both!(self, write_word(0x00, 0x8000 | n));
+            for _ in 0..(n + 3) / 4 * 2 + 1 {
+                let v = r.next() as u16;
+                both!(self, write_word(0x02, v));
+            }
+            if clean {
+                both!(self, sent());
+            } else {
+                self.outcome(r);
+            }
+            self.glance();
+            both!(self, write_word(0x0E, 9 << 11));
+            self.tally.full += (self.proved.card().transmit.outcomes.statuses.count == 31) as u64;
+        }
+        for _ in 0..r.below(80) {
+            self.service(r);
+        }
+    }
+
+    /// More sends than may stay unreported.
+    fn burst(&mut self, r: &mut Random) {
+        for _ in 0..r.below(24) {
+            let packet = vec![r.byte(); 14 + r.below(60) as usize];
+            both!(self, send(&packet));
+            both!(self, sent());
+        }
+    }
+
+    fn outcome(&mut self, r: &mut Random) {
+        if r.one_in(4) {
+            both!(self, collided());
+        } else {
+            both!(self, sent());
+        }
+    }
+
+    /// Anything at all, with any argument.
+    fn hostile(&mut self, r: &mut Random) {
+        let offset = if r.one_in(12) { r.word() } else { r.below(16) as u16 };
+        match r.below(14) {
+            0 => done(both!(self, read_word(offset))),
+            1 => done(both!(self, read_byte(offset))),
+            2 => {
+                let v = r.word();
+                done(both!(self, write_word(offset & 0xFFFE, v)))
+            }
+            3 => {
+                let v = r.word();
+                done(both!(self, write_word(offset, v)))
+            }
+            4 | 5 => {
+                let v = r.byte();
+                done(both!(self, write_byte(offset, v)))
+            }
+            6 => {
+                let mut command = r.next() as u16;
+                if command >> 11 == 0 && !r.one_in(20) {
+                    command |= 1 << 11;
+                }
+                done(both!(self, write_word(0x0E, command)))
+            }
+            7 => {
+                let first: [u8; 8] = std::array::from_fn(|i| if i < 6 { STATION[i] } else { r.byte() });
+                done(both!(self, wire_start(first)))
+            }
+            8 => {
+                for _ in 0..r.below(100) {
+                    let b = r.byte();
+                    done(both!(self, wire_byte(b)))
+                }
+            }
+            9 => {
+                let (check, alignment) = (!r.one_in(3), !r.one_in(3));
+                done(both!(self, wire_end(check, alignment)))
+            }
+            10 => self.outcome(r),
+            11 => self.id_port(r),
+            12 => {
+                // The EEPROM's commands.
+                both!(self, write_word(0x0E, 1 << 11)).ok();
+                let v = r.word();
+                both!(self, write_word(0x0C, v)).ok();
+                for command in [0x30, r.byte(), 0x80 | r.below(64) as u16 as u8] {
+                    both!(self, write_byte(0x0A, command)).ok();
+                }
+                done(both!(self, read_word(0x0C)))
+            }
+            _ => {
+                let w = [r.word(), r.word(), r.word()];
+                match r.below(4) {
+                    0 => done(both!(self, open(w))),
+                    1 => done(both!(self, open(NODE))),
+                    2 => self.send(r),
+                    _ => self.service(r),
+                }
+            }
+        }
+    }
+
+    fn id_port(&mut self, r: &mut Random) {
+        let port = match r.below(6) {
+            0 => r.word(),
+            1 => 0x100 + 0x10 * r.below(16) as u16,
+            _ => PORT,
+        };
+        match r.below(8) {
+            0 => self.activate(),
+            1 => {
+                for b in [0, 0].into_iter().chain(model::SEQUENCE) {
+                    let wrong = r.one_in(400);
+                    both!(self, id_write(port, if wrong { b ^ 1 } else { b })).ok();
+                }
+            }
+            2 | 3 => {
+                let b = r.byte();
+                done(both!(self, id_write(port, b)))
+            }
+            4 => done(both!(self, id_drives(port))),
+            5 => {
+                let bus = r.one_in(2);
+                done(both!(self, id_read(port, bus)))
+            }
+            6 => {
+                for _ in 0..16 {
+                    let Ok(bit) = both!(self, id_drives(port)) else { return };
+                    both!(self, id_read(port, bit)).ok();
+                }
+            }
+            _ => {
+                let b = 0x80 + r.below(0x40) as u8;
+                done(both!(self, id_write(port, b)))
+            }
+        }
+    }
+}
+
+#[test]
+fn sensible_runs() {
+    let mut r = Random(number("SEAMTROUT_SEED", 0x9E37_79B9));
+    let (wanted, mut tally) = (steps(600_000), Tally::default());
+    while tally.calls < wanted {
+        let mut words = r.words();
+        words[..3].copy_from_slice(&NODE);
+        let mut p = Pair::new(words, tally);
+        p.activate();
+        both!(p, open(NODE)).unwrap();
+        for turn in 0..400 {
+            match r.below(40) {
+                0..=7 => p.frame(&mut r),
+                8..=21 => p.service(&mut r),
+                22..=27 => p.send(&mut r),
+                28..=33 => p.outcome(&mut r),
+                34 => p.written(&mut r),
+                35 => p.host(&mut r),
+                36 => p.flood(&mut r),
+                37 => p.burst(&mut r),
+                _ => done(both!(p, open(NODE))),
+            }
+            if p.proved.card().receive.receiver.failed | p.proved.card().transmit.fifo.failed && r.one_in(4) {
+                p.recover();
+            }
+            p.glance();
+            if turn % 8 == 0 {
+                p.sweep();
+            }
+        }
+        tally = p.tally;
+    }
+    println!("{} calls; {}", tally.calls, tally.shown());
+    // The run went everywhere that it can go.
+    assert!([3, 4, 5, 6, 7, 11].iter().all(|&n| tally.refusals[n] > 0));
+    assert!(tally.reports > 0 && tally.statuses > 0 && tally.frames[0] > 0 && tally.frames[1] > 0 && tally.idle > 0 && tally.full > 0);
+    assert!([0, 1, 3, 4, 5].iter().all(|&n| tally.codes[n] > 0));
+}
+
+#[test]
+fn hostile_runs() {
+    let mut r = Random(number("SEAMTROUT_SEED", 0x0BAD_5EED));
+    let (wanted, mut tally) = (steps(600_000), Tally::default());
+    while tally.calls < wanted {
+        let mut p = Pair::new(r.words(), tally);
+        for turn in 0..2000 {
+            match r.below(64) {
+                0 => p.activate(),
+                1 => done(both!(p, open(NODE))),
+                2 => p.frame(&mut r),
+                3 => p.written(&mut r),
+                _ => p.hostile(&mut r),
+            }
+            p.glance();
+            if turn % 32 == 0 {
+                p.sweep();
+            }
+            if p.told.len() > 4000 {
+                p.told.drain(..2000);
+            }
+        }
+        tally = p.tally;
+    }
+    println!("{} calls; {}", tally.calls, tally.shown());
+    assert!([2, 5, 6, 7, 11, 12, 13].iter().all(|&n| tally.refusals[n] > 0));
+}
+
+#[test]
+fn cards_on_one_port() {
+    let mut r = Random(number("SEAMTROUT_SEED", 7));
+    for _ in 0..steps(1000) / 5 {
+        let n = r.below(10) as usize;
+        let mut pairs: Vec<Pair> = (0..n)
+            .map(|_| {
+                let mut w = r.words();
+                if r.one_in(4) {
+                    w[..3].fill(0xFFFF);
+                }
+                let mut p = Pair::new(w, Tally::default());
+                for _ in 0..r.below(4) {
+                    p.id_port(&mut r);
+                }
+                p
+            })
+            .collect();
+        for _ in 0..3 {
+            let port = if r.one_in(8) { r.word() } else { PORT };
+            let (tag, base) = (r.below(9) as u8, r.below(34) as u8);
+            let mut proved: Vec<Seamtrout> = pairs.iter().map(|p| p.proved.clone()).collect();
+            let mut plain: Vec<Model> = pairs.iter().map(|p| p.model.clone()).collect();
+            if r.one_in(3) {
+                assert_eq!(
+                    seamtrout::activate(&mut proved, port, tag, base),
+                    model::activate(&mut plain, port, tag, base)
+                );
+            } else {
+                assert_eq!(seamtrout::search(&mut proved, port), model::search(&mut plain, port));
+            }
+            for ((p, a), b) in pairs.iter_mut().zip(proved).zip(plain) {
+                p.proved = a;
+                p.model = b;
+                p.glance();
+                p.sweep();
+            }
+        }
+    }
+}
+
+#[test]
+fn images() {
+    let mut r = Random(number("SEAMTROUT_SEED", 11));
+    let mut sound = 0;
+    for _ in 0..steps(20_000) {
+        let n = if r.one_in(10) { r.below(300) as usize } else { 128 };
+        let mut image: Vec<u8> = (0..n).map(|_| r.byte()).collect();
+        if n == 128 && !r.one_in(10) {
+            image[14..16].copy_from_slice(&[0x50, 0x6D]);
+            // The checksums as the paper and the manual have them, now and then spoilt.
+            let xor = |image: &[u8], words: &[std::ops::RangeInclusive<usize>]| {
+                words.iter().cloned().flatten().fold(0, |x, w| x ^ image[2 * w] ^ image[2 * w + 1])
+            };
+            image[0x1F] = xor(&image, &[0..=7, 10..=12, 14..=14]);
+            image[0x1E] = xor(&image, &[8..=9, 13..=13]);
+            image[0x2F] = xor(&image, &[0x10..=0x12, 0x20..=0x3F]);
+            image[0x2E] = xor(&image, &[0x13..=0x16]);
+            if r.one_in(2) {
+                let at = r.below(128) as usize;
+                image[at] ^= 1 << r.below(8);
+            }
+        }
+        let a = seamtrout::image_check(&image);
+        assert_eq!(a, model::image_check(&image), "{image:02X?}");
+        sound += a.is_ok() as u32;
+    }
+    assert!(sound > 100);
+}
+
+/// The sizes that the archive proves of its structs are those of the declarations.
+#[test]
+fn sizes() {
+    use seamtrout::raw;
+    // SAFETY: these take nothing.
+    let told = unsafe { [raw::seamtrout_card_size(), raw::seamtrout_driver_size(), raw::seamtrout_bus_size()] };
+    let ours = [size_of::<raw::Card>(), size_of::<raw::Driver>(), size_of::<raw::Bus>()];
+    assert_eq!(told, ours);
+}
+
+/// A card whose numbers make no card is refused with 1 by every call, and stays as it is.
+#[test]
+fn unsound_cards() {
+    let good = Seamtrout::power_on([0; 64]);
+    let (ram, dir) = good.memory();
+    let spoilt: [fn(&mut seamtrout::raw::Card); 10] = [
+        |c| c.id.port = 17,
+        |c| c.id.tag = 8,
+        |c| c.id.due = true,
+        |c| c.select.window = 8,
+        |c| c.select.mask = 1,
+        |c| c.receive.frames = 769,
+        |c| c.receive.receiver.wire = 3,
+        |c| c.receive.receiver.wire = 2,
+        |c| c.transmit.fifo.packets = usize::MAX,
+        |c| c.transmit.outcomes.statuses.count = 32,
+    ];
+    for spoil in spoilt {
+        let mut card = *good.card();
+        spoil(&mut card);
+        let mut c = Seamtrout::from_parts(card, *good.driver(), *ram, *dir);
+        assert_eq!(c.read_word(99), Err(1));
+        assert_eq!(c.read_byte(99), Err(1));
+        assert_eq!(c.write_word(99, 0), Err(1));
+        assert_eq!(c.write_byte(99, 0), Err(1));
+        assert_eq!(c.wire_start([0; 8]), Err(1));
+        assert_eq!(c.wire_byte(0), Err(1));
+        assert_eq!(c.wire_end(true, true), Err(1));
+        assert_eq!(c.sent(), Err(1));
+        assert_eq!(c.collided(), Err(1));
+        assert_eq!(c.id_write(99, 0), Err(1));
+        assert_eq!(c.id_drives(99), Err(1));
+        assert_eq!(c.id_read(99, true), Err(1));
+        assert_eq!(c.open(NODE), Err(1));
+        assert_eq!(c.send(&[]), Err(1));
+        assert_eq!(c.service(0, &mut [], &mut []), (Service::Refused(1), 0));
+        assert_eq!(seamtrout::search(std::slice::from_mut(&mut c), 99), Err(1));
+        assert_eq!(seamtrout::activate(std::slice::from_mut(&mut c), 99, 9, 99), Err(1));
+        assert_eq!(c.card(), &card);
+        assert_eq!(c.memory(), (ram, dir));
+    }
+}

@@ -57,7 +57,7 @@ pub fn put_word(text: &mut [u8], at: usize, v: u16) -> usize
 // Bytes, two digits each.
 pub fn put_bytes(text: &mut [u8], at: usize, s: &[u8]) -> usize
     requires { ⌜ at + 2 * length (now s) ≤ length (now text) ⌝ }
-    ensures { λ r. ⌜ Puts (bytesText (now (s .entry))) at (now (text .entry)) (now (text .exit)) r ⌝ }
+    ensures { λ r. ⌜ Puts (bytesText (now (s .entry))) at (now (text .entry)) (now (text .exit)) r × (r ≡ at + 2 * length (now (s .entry))) ⌝ }
 {
     let mut place = at;
     let mut i: usize = 0;
@@ -71,7 +71,7 @@ pub fn put_bytes(text: &mut [u8], at: usize, s: &[u8]) -> usize
 // A number below 100,000 in decimal, with no zero in front.
 pub fn put_decimal(text: &mut [u8], at: usize, n: u32) -> usize
     requires { ⌜ at + 5 ≤ length (now text) ⌝ }
-    ensures { λ r. ⌜ Puts (decimalText n) at (now (text .entry)) (now (text .exit)) r ⌝ }
+    ensures { λ r. ⌜ Puts (decimalText n) at (now (text .entry)) (now (text .exit)) r × (r ≤ at + 5) ⌝ }
 {
     put_places(text, at, n, 5)
 }

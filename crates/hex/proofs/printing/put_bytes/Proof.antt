@@ -38,7 +38,7 @@ same-length : tie.Need-same-length Inv-loop μ-loop
 same-length c = c .before .loop .inv .1 .1 .long
 
 returns : tie.Need-returns Inv-loop μ-loop
-returns c = let e : c .before .loop .i ≡ length (c .before .before .before .before .args .s .now) = omega arith in law.as-said (c .before .loop .inv .1 .1) (ap bytesText (rw (e, take-length))) refl
+returns c = let e : c .before .loop .i ≡ length (c .before .before .before .before .args .s .now) = omega arith in (law.as-said (c .before .loop .inv .1 .1) (ap bytesText (rw (e, take-length))) refl, omega arith)
 
 pub put-bytes-spec : {M : Type 1} → statement M
 put-bytes-spec =

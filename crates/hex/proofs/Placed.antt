@@ -24,7 +24,8 @@ on {a} {b} {t} {t′} {t″} {at} {m} {r} p q =
     record {
       front = q .front ∙ (ap (λ (l : List ℕ). l ++ b) (p .front) ∙ append-assoc (take at t) a b);
       next = rw length-append (omega (arith, p .next, q .next));
-      long = q .long ∙ p .long }
+      long = q .long ∙ p .long;
+    }
 
 -- the same characters, said otherwise
 pub as-said : {a b t t′ : List ℕ} {at r s : ℕ} → Puts a at t t′ r → a ≡ b → r ≡ s → Puts b at t t′ s

@@ -42,21 +42,23 @@ reads-more s i out v p h room a b e =
     let f : take (i + 1) (set out i v) ≡ take i out ++ (v ∷ []) = rw add-one (take-suc-set out i v room) in
     record {
       bytes =
-        p .bytes
-        ∙ (ap (λ (l : List ℕ). take i out ++ bytesOf l) (next-two s i h)
-        ∙ (sym (append-assoc (take i out) (v ∷ []) (bytesOf (drop (2 * (i + 1)) s))
-        ∙ ap (λ (x : ℕ). take i out ++ (x ∷ bytesOf (drop (2 * (i + 1)) s))) e)
-        ∙ ap (λ (l : List ℕ). l ++ bytesOf (drop (2 * (i + 1)) s)) (sym f)));
+          p .bytes
+          ∙ (ap (λ (l : List ℕ). take i out ++ bytesOf l) (next-two s i h)
+          ∙ (sym (append-assoc (take i out) (v ∷ []) (bytesOf (drop (2 * (i + 1)) s))
+          ∙ ap (λ (x : ℕ). take i out ++ (x ∷ bytesOf (drop (2 * (i + 1)) s))) e)
+          ∙ ap (λ (l : List ℕ). l ++ bytesOf (drop (2 * (i + 1)) s)) (sym f)));
       digits =
-        p .digits
-        ∙ (ap isHex (next-two s i h)
-        ∙ rw (le-leb _ _ a, le-leb _ _ b)) }
+          p .digits
+          ∙ (ap isHex (next-two s i h)
+          ∙ rw (le-leb _ _ a, le-leb _ _ b));
+    }
 
 pub reads-all : (s : List ℕ) (i : ℕ) (out : List ℕ) → Reads s i out → length s ≤ 2 * i → (take i out ≡ bytesOf s) × (isHex s ≡ true)
 unfolding bytesOf isHex
-reads-all s i out p h =
-    (sym (p .bytes ∙ (ap (λ (l : List ℕ). take i out ++ bytesOf l) (drop-of-length-le s h) ∙ append-nil (take i out))),
-    p .digits ∙ ap isHex (drop-of-length-le s h))
+reads-all s i out p h = (
+  sym (p .bytes ∙ (ap (λ (l : List ℕ). take i out ++ bytesOf l) (drop-of-length-le s h) ∙ append-nil (take i out))),
+  p .digits ∙ ap isHex (drop-of-length-le s h),
+)
 
 pub first-wrong : (s : List ℕ) (i : ℕ) (out : List ℕ) → Reads s i out → 2 * i + 2 ≤ length s → 15 < valueOf (getD s (2 * i) 0) → isHex s ≡ false
 unfolding isHex
@@ -98,4 +100,5 @@ whole s out out′ i h g l e p =
     record {
       answer = rw (eq-eqb _ _ h, le-leb _ _ g, a .1);
       bytes = λ _. rw (← e) (a .0);
-      long = l }
+      long = l;
+    }

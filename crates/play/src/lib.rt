@@ -1,6 +1,7 @@
 // Plays a script: input is read in pieces, and each line is answered as soon as it is whole.
-ghost use Prim.Native.Nat.{_≤_};
-ghost use lib.ListN.{length};
+ghost use mathlib.Core.Path.{_≡_};
+ghost use Prim.Native.Nat.{_+_, _≤_, _<_};
+ghost use lib.ListN.{length, take};
 use libc::STDOUT_FILENO;
 use session::Bench;
 
@@ -26,11 +27,11 @@ fn until(piece: &[u8], from: usize) -> usize
 }
 
 // Characters of a line, behind those that came before. There is room for a line of 8,192 and a carriage return.
-fn append(line: &mut [u8; 8193], count: usize, s: &[u8]) -> usize {
+fn append(line: &mut [u8], count: usize, s: &[u8]) -> usize {
     let mut n = count;
     let mut i: usize = 0;
     while i < s.len() {
-        if n >= 8193 {
+        if n >= line.len() {
             return 8194;
         }
         line[n] = s[i];
@@ -41,7 +42,7 @@ fn append(line: &mut [u8; 8193], count: usize, s: &[u8]) -> usize {
 }
 
 // The length of a whole line without a carriage return at its end; 8,193 if it is too long.
-fn length_of(line: &[u8; 8193], count: usize) -> usize {
+fn length_of(line: &[u8], count: usize) -> usize {
     if count > 8193 {
         return 8193;
     }
@@ -49,17 +50,34 @@ fn length_of(line: &[u8; 8193], count: usize) -> usize {
         return 0;
     }
     let last = count - 1;
-    if line[last] == b'\r' {
-        return last;
+    if last < line.len() {
+        if line[last] == b'\r' {
+            return last;
+        }
     }
     count
+}
+
+// The first n characters, or all.
+fn front(s: &[u8], n: usize) -> &[u8]
+    ensures { λ r. ⌜ now r ≡ take n (now (s .entry)) ⌝ }
+{
+    if n < s.len() {
+        return &s[..n];
+    }
+    s
+}
+
+// An answer is written.
+fn tell(text: &[u8; 4096], len: usize) {
+    io::write_all(STDOUT_FILENO, front(text, len));
 }
 
 // A whole line is answered.
 fn answered(
     ram: &mut [u8; 8192],
     dir: &mut [u16; 1110],
-    line: &[u8; 8193],
+    line: &[u8],
     b: Bench,
     count: usize,
 ) -> Bench {
@@ -69,13 +87,19 @@ fn answered(
         return b;
     }
     let mut text = [0u8; 4096];
-    let done = session::step(ram, dir, &mut text, b, &line[..n]);
+    let done = session::step(ram, dir, &mut text, b, front(line, n));
     let next = done.bench;
     let len = done.len;
-    if len <= 4096 {
-        io::write_all(STDOUT_FILENO, &text[..len]);
-    }
+    tell(&text, len);
     next
+}
+
+// The place behind a newline.
+fn past(piece: &[u8], end: usize) -> usize
+    requires { ⌜ end < length (now piece) ⌝ }
+    ensures { λ r. ⌜ r ≡ end + 1 ⌝ }
+{
+    end + 1
 }
 
 // A piece of input: every line that it makes whole is answered.
@@ -97,11 +121,50 @@ fn feed(
         }
         bench = answered(ram, dir, line, bench, count);
         count = 0;
-        at = end + 1;
+        at = past(piece, end);
     }
     Playing {
         bench: bench,
         count: count,
+    }
+}
+
+// What a turn leaves, and whether there may be more to read.
+pub struct Played {
+    pub playing: Playing,
+    pub more: bool,
+}
+
+// Reads a piece and plays it.
+fn turn(
+    fd: i32,
+    ram: &mut [u8; 8192],
+    dir: &mut [u16; 1110],
+    line: &mut [u8; 8193],
+    p: Playing,
+) -> Played {
+    let mut piece = io::buffer();
+    let got = libc::read(fd, &mut piece);
+    if got <= 0 {
+        return Played {
+            playing: p,
+            more: false,
+        };
+    }
+    let n = io::count(got, &piece);
+    let next = feed(ram, dir, line, p, &piece[..n]);
+    Played {
+        playing: next,
+        more: true,
+    }
+}
+
+// A last line without a newline counts.
+fn last(ram: &mut [u8; 8192], dir: &mut [u16; 1110], line: &[u8; 8193], p: Playing) {
+    let bench = p.bench;
+    let count = p.count;
+    if count > 0 {
+        answered(ram, dir, line, bench, count);
     }
 }
 
@@ -110,24 +173,19 @@ pub fn play(fd: i32) {
     let mut ram = [0u8; 8192];
     let mut dir = [0u16; 1110];
     let mut line = [0u8; 8193];
-    let mut piece = io::buffer();
     let mut p = Playing {
         bench: session::powered([0; 64]),
         count: 0,
     };
     let mut turns = u64::MAX;
     while turns > 0 {
-        let got = libc::read(fd, &mut piece);
-        if got <= 0 {
+        let t = turn(fd, &mut ram, &mut dir, &mut line, p);
+        let next = t.playing;
+        p = next;
+        if !t.more {
             break;
         }
-        let n = io::count(got, &piece);
-        p = feed(&mut ram, &mut dir, &mut line, p, &piece[..n]);
         turns -= 1;
     }
-    // A last line without a newline counts.
-    if p.count > 0 {
-        let bench = p.bench;
-        answered(&mut ram, &mut dir, &line, bench, p.count);
-    }
+    last(&mut ram, &mut dir, &line, p);
 }

@@ -89,10 +89,10 @@ counted-either : (P : ℕ → Type 0) (k : Kind) (exact n : ℕ) → P n → P 0
 unfolding countedLine exactLine
 counted-either P k exact n a b = either (eqb exact 0) (eqb n exact)
   where
-  either : (x y : Bool) → P (cond x (lineOf k 0 0 0 n) (cond y (lineOf k 0 0 0 n) unknownLine) .len)
-  either true y = a
-  either false true = a
-  either false false = b
+    either : (x y : Bool) → P (cond x (lineOf k 0 0 0 n) (cond y (lineOf k 0 0 0 n) unknownLine) .len)
+    either true y = a
+    either false true = a
+    either false false = b
 
 roomy : (x y z : Bool) → (x && (y && z)) ≡ true → y ≡ true
 roomy true true z e = refl
@@ -111,7 +111,8 @@ spelt {r} k exact count room n one bytes e h p =
       meaning = e ∙ sym (rw (eq-eqb _ _ h, q .0, ← q .1));
       spelled = subst⁻¹ (λ (x : Line). take (x .len) bytes ≡ take (x .len) (bytesOf one)) e (counted-either (λ (m : ℕ). take m bytes ≡ take m (bytesOf one)) k exact n t refl);
       fits = subst⁻¹ (λ (x : Line). x .len ≤ room) e (counted-either (λ (m : ℕ). m ≤ room) k exact n f (omega arith));
-      long = p .long }
+      long = p .long;
+    }
 
 -- A line of numbers spells nothing: its length is 0.
 record Short (l : Line) : Type 0 where
@@ -249,7 +250,8 @@ numbers-line {r} k count one two three bytes h e =
       meaning = e ∙ operands-rest k count (length bytes) one two three h;
       spelled = rw z refl;
       fits = omega arith;
-      long = refl }
+      long = refl;
+    }
 
 -- ---- a whole line
 
@@ -265,11 +267,12 @@ nothing-said line first bytes e h f =
       meaning = f ∙ sym (ap (wordsLine (length bytes)) (sym e ∙ empty first h));
       spelled = rw f refl;
       fits = rw f (omega arith);
-      long = refl }
+      long = refl;
+    }
   where
-  empty : (s : List ℕ) → length s ≡ 0 → s ≡ []
-  empty [] h = refl
-  empty (b ∷ s) h = absurd (omega arith)
+    empty : (s : List ℕ) → length s ≡ 0 → s ≡ []
+    empty [] h = refl
+    empty (b ∷ s) h = absurd (omega arith)
 
 pub said : {r : Line} (line first one two three more w w₁ w₂ w₃ : List ℕ) (key count : ℕ) (k : Kind) (room : ℕ) (bytes : List ℕ)
     → first ≡ begunOf line → (length first ≡ 0 → ⊥)

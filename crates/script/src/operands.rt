@@ -242,14 +242,7 @@ fn exactly(kind: Kind, exact: usize, n: usize) -> Line
 }
 
 // What a line asks for, by its kind.
-pub fn line(
-    kind: Kind,
-    count: u8,
-    one: &[u8],
-    two: &[u8],
-    three: &[u8],
-    bytes: &mut [u8],
-) -> Line
+pub fn line(kind: Kind, count: u8, one: &[u8], two: &[u8], three: &[u8], bytes: &mut [u8]) -> Line
     ensures { λ r. ⌜ Spells (operandLine kind count (length (now (bytes .entry))) (now (one .entry)) (now (two .entry)) (now (three .entry))) (now (one .entry)) (length (now (bytes .entry))) r (now (bytes .exit)) ⌝ }
 {
     match kind {

@@ -55,10 +55,7 @@ pub fn powered(words: [u16; 64]) -> Bench {
 fn plain(text: &mut [u8; 4096], b: Bench, reply: Reply) -> Stepped {
     let none = [0u8; 1];
     let len = answers::say(text, reply, &none, [0; 7]);
-    Stepped {
-        bench: b,
-        len: len,
-    }
+    Stepped { bench: b, len: len }
 }
 
 // The same with another card.

@@ -111,10 +111,7 @@ pub fn read(
 fn listed(text: &mut [u8; 4096], b: Bench, reply: Reply, addresses: [u64; 7]) -> Stepped {
     let none = [0u8; 1];
     let len = answers::say(text, reply, &none, addresses);
-    Stepped {
-        bench: b,
-        len: len,
-    }
+    Stepped { bench: b, len: len }
 }
 
 pub fn find(
@@ -129,7 +126,12 @@ pub fn find(
     let answer = got.answer;
     let addresses = got.addresses;
     match answer {
-        Found::Cards { count, accesses } => listed(text, back(ram, dir, b, after), Reply::Found(count, accesses), addresses),
+        Found::Cards { count, accesses } => listed(
+            text,
+            back(ram, dir, b, after),
+            Reply::Found(count, accesses),
+            addresses,
+        ),
         Found::Refused(why) => super::plain(text, b, super::refused(why)),
     }
 }

@@ -1,2 +1,0 @@
--- The law, and what leads to it.
-pub mod Back

@@ -1,0 +1,6 @@
+// The bench: a script on standard input, an answer a line on standard output.
+use libc::STDIN_FILENO;
+
+fn main() {
+    play::play(STDIN_FILENO);
+}

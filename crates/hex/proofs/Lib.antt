@@ -1,0 +1,3 @@
+-- Laws of putting and reading.
+pub mod Placed
+pub mod Spelling

@@ -1,0 +1,2 @@
+-- What the contracts of `hex` cite.
+pub mod Text

@@ -1,0 +1,2 @@
+-- Laws of words and lines.
+pub mod Lines

@@ -1,0 +1,2 @@
+-- The language of the bench.
+pub mod Script

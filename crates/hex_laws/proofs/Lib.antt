@@ -1,0 +1,2 @@
+-- The law, and what leads to it.
+pub mod Back

@@ -1,0 +1,2 @@
+-- What is printed is read back.
+pub mod RoundTrip

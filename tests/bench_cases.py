@@ -198,7 +198,7 @@ def refusals():
     s.do('sent', 'refused 11')
     s.do('collided', 'refused 11')
     s.say('12 on the ID port: not 1x0h, a tag outside 1 to 7, a base number above 31.')
-    for line in ('idw 200 0', 'idw 111 0', 'idr 0', 'search 210', 'activate 110 0 31', 'activate 110 8 31', 'activate 110 1 32'):
+    for line in ('idw 200 0', 'idw 111 0', 'idr 0', 'search 210', 'activate 110 0 31', 'activate 110 8 31', 'activate 110 257 1', 'activate 110 1 32', 'activate 110 1 65535'):
         s.do(line, 'refused 12')
     s.say('Eight cards are the most.')
     for i in range(7):
@@ -470,7 +470,7 @@ def hostile():
             'power', 'power 00', 'power ' + '0' * 255, 'power ' + '0' * 258, 'power ' + '0' * 255 + 'g', 'join 0',
             'start 00', 'start ' + '0' * 15, 'start ' + '0' * 18, 'start', 'bytes', 'bytes 0', 'bytes 0g', 'bytes 00 00',
             'end', 'end 1', 'end 111', 'end 12', 'end 21', 'end 1 1', 'sent 1', 'collided now', 'idw 110', 'idw 110 100', 'idr', 'idr 110 0',
-            'search', 'search 110 1', 'activate 110 1', 'activate 110 256 0', 'activate 110 A 0', 'activate 110 1 256', 'activate 110 1 31 0',
+            'search', 'search 110 1', 'activate 110 1', 'activate 110 65536 0', 'activate 110 A 0', 'activate 110 1 65536', 'activate 110 1 31 0',
             'open 0 0', 'open 0 0 10000', 'open 0 0 0 0', 'send', 'send 0', 'send 000', 'send 0x', 'service', 'service A', 'service 65536',
             'service 99999999999999999999', 'service 1 1', 'service -1', 'activate1', 'activated 110 1 31', 'servicee 1', '=', 'ok', 'what?', '\\', 'é', '*' * 8192):
         s.do(line, None if line == 'rw 1 # 2 #' else 'what?')
@@ -514,15 +514,51 @@ def cut_image():
     s.do('service 1000', 'idle accesses 2')
 
 
+def first_session():
+    s = Script('first-session', 'A first session: a card is powered, found, activated and opened; a packet goes out and a frame comes in.')
+    s.power()
+    s.say('Until it is activated it reads all ones.')
+    s.do('rw E', '= FFFF')
+    s.say('The search finds it on ID port 110h and tags it 1; activation at base number 31 keeps its own base.')
+    s.do('search 110', 'found 1 accesses 875 ' + STATION)
+    s.ok('activate 110 1 31')
+    s.say('Status in window 0: nothing pending.')
+    s.do('rw E', '= 0000')
+    s.ok('open 0020 AFC4 12E5')
+    s.say('Status in window 1. TX Free is 0C00h: 3,072 bytes.')
+    s.do('rw E', '= 2000')
+    s.do('rw C', '= 0C00')
+    s.say('A packet of 14 bytes. TX Free falls by its preamble and its length rounded up: 20 bytes.')
+    packet = bytes.fromhex('FFFFFFFFFFFF' + STATION + '0800')
+    s.do('send ' + hexed(packet), 'ticket 0')
+    s.do('rw C', '= %04X' % (3072 - 20))
+    s.say('The wire takes it, with zeros up to 60 bytes; the driver reports its ticket and status.')
+    s.do('sent', wire(packet))
+    s.do('service 100', 'report 0 C0 accesses 4')
+    s.say('A frame of 60 bytes for this station comes, and is handed up in the lookahead area: 33 accesses.')
+    s.frame(frame(60))
+    s.do('service 100', 'frame look %s accesses 33' % hexed(frame(60)))
+    s.say('Nothing is left.')
+    s.do('service 100', 'idle accesses 2')
+    s.say('A packet of one byte, and an offset above 0Fh: each refusal has its number.')
+    s.do('send 00', 'refused 2')
+    s.do('rw 11', 'refused 12')
+
+
+# The scripts that stand under examples/ too, for readers.
+EXAMPLES = ('first-session', 'three-cards', 'cut-image')
+
+
 def main():
-    for make in (bench_table, id_sequence, refusals, three_cards, damaged, overrun, early, statuses, collisions, eeprom, hostile, cut_image):
+    for make in (first_session, bench_table, id_sequence, refusals, three_cards, damaged, overrun, early, statuses, collisions, eeprom, hostile, cut_image):
         make()
     os.makedirs(os.path.join(OUT, 'data'), exist_ok=True)
     out = []
     for s in SCRIPTS:
         text = '\n'.join(s.lines) + ('' if hasattr(s, 'last') else '\n')
-        with open(os.path.join(OUT, 'data', s.name), 'wb') as f:
-            f.write(text.encode())
+        for folder in [os.path.join(OUT, 'data')] + [os.path.join(OUT, '..', '..', 'examples')] * (s.name in EXAMPLES):
+            with open(os.path.join(folder, s.name), 'wb') as f:
+                f.write(text.encode())
         out += ['== ' + s.name] + s.answers
     with open(os.path.join(OUT, 'args'), 'w') as f:
         f.write(''.join(s.name + '\n' for s in SCRIPTS))

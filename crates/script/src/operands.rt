@@ -270,7 +270,7 @@ fn numbers(kind: Kind, count: u8, one: &[u8], two: &[u8], three: &[u8]) -> Line
         Kind::IdWrite => two_numbers(kind, 255, count, one, two),
         Kind::IdRead => one_number(kind, 16, count, one),
         Kind::Search => one_number(kind, 16, count, one),
-        Kind::Activate => three_numbers(kind, 10, 255, count, one, two, three),
+        Kind::Activate => three_numbers(kind, 10, 65535, count, one, two, three),
         Kind::Open => three_numbers(kind, 16, 65535, count, one, two, three),
         Kind::Service => one_number(kind, 10, count, one),
         _ => unknown(),

@@ -136,6 +136,14 @@ pub fn find(
     }
 }
 
+// A number that no byte holds is no tag and no base number: 255, which is none either, stands for it.
+fn narrowed(v: u16) -> u8 {
+    if v > 255 {
+        return 255;
+    }
+    (v % 256) as u8
+}
+
 pub fn activate(
     ram: &mut [u8; 8192],
     dir: &mut [u16; 1110],
@@ -145,7 +153,7 @@ pub fn activate(
     tag: u16,
     base: u16,
 ) -> Stepped {
-    let got = search::activate_card(bus(b), port, (tag % 256) as u8, (base % 256) as u8);
+    let got = search::activate_card(bus(b), port, narrowed(tag), narrowed(base));
     let after = got.bus;
     let answer = got.answer;
     match answer {

@@ -15,9 +15,10 @@ use Rattle.regs.specs.Sound.{selectSound}
 use Rattle.regs.proofs.Sides.{registers-of}
 use Rattle.steps.specs.Event as event
 use Rattle.card.specs.Calls.{judged, Does}
-use Rattle.abi.specs.declared.cards.CardDone.{CardDone}
+use Rattle.port_cards.specs.Gathered.{isPort, digitOf}
+use Rattle.codes.specs.declared.cards.CardDone.{CardDone}
 use Rattle.abi.specs.declared.ids.CardBit.{CardBit}
-use Rattle.abi.specs.Ids.{isPort, digitOf, Seated, bitOf}
+use Rattle.abi.specs.Ids.{Seated, bitOf}
 
 module _ (s ok : Bool) (i : IdState) (c : Card) (ram dir : List ℕ) where
   pub unsound : s ≡ false → Seated (judged s ok 12) i c ram dir (record { card = c; code = 1 })
@@ -46,13 +47,13 @@ module _ (c : Card) (ram dir : List ℕ) (port : ℕ) where
   bit-told bit e f h = rw (e, f, h) refl
 
 -- the ID state of a sound card is sound
-identified : (c : Card) (ram dir : List ℕ) → Sound c ram dir → idSound (c .id) ≡ true
+pub identified : (c : Card) (ram dir : List ℕ) → Sound c ram dir → idSound (c .id) ≡ true
 unfolding view
 identified c ram dir s = both (idSound (c .id)) (not (c .id .due) && selectSound (c .select)) (registers-of (view c ram dir) (s .calm)) .0
 
-module _ (c : Card) (ram dir : List ℕ) (port x byte : ℕ) (i : IdState) where
-  pub write-sound : Sound c ram dir → x ≡ digitOf port → i ≡ idWrite (c .id) x byte → idSound i ≡ true
-  write-sound s d e = rw e (every-step-keeps-soundness .writes (c .id) x byte (omega (arith, d)) (identified c ram dir s))
+module _ (i : IdState) (port byte : ℕ) (j : IdState) where
+  pub write-sound : j ≡ idWrite i (digitOf port) byte → idSound i ≡ true → idSound j ≡ true
+  write-sound e s = rw e (every-step-keeps-soundness .writes i (digitOf port) byte (omega arith) s)
 
-  pub hear-sound : Sound c ram dir → x ≡ digitOf port → i ≡ idAfterRead (c .id) x byte → idSound i ≡ true
-  hear-sound s d e = rw e (every-step-keeps-soundness .reads (c .id) x byte (identified c ram dir s))
+  pub hear-sound : j ≡ idAfterRead i (digitOf port) byte → idSound i ≡ true → idSound j ≡ true
+  hear-sound e s = rw e (every-step-keeps-soundness .reads i (digitOf port) byte s)

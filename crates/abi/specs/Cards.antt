@@ -18,10 +18,10 @@ use Rattle.card.specs.Calls.{value, done, readReply, doneReply, toldReply, judg
 use Rattle.card.specs.declared.AfterCall.{AfterCall}
 use Rattle.card.specs.declared.AfterRead.{AfterRead}
 use Rattle.card.specs.declared.AfterSuccess.{AfterSuccess}
-use Rattle.abi.specs.declared.cards.CardDone.{CardDone}
-use Rattle.abi.specs.declared.cards.CardRead.{CardRead}
-use Rattle.abi.specs.declared.cards.CardTold.{CardTold}
-use Rattle.abi.specs.Codes.{codedDone, codedRead, codedTold}
+use Rattle.codes.specs.declared.cards.CardDone.{CardDone}
+use Rattle.codes.specs.declared.cards.CardRead.{CardRead}
+use Rattle.codes.specs.declared.cards.CardTold.{CardTold}
+use Rattle.codes.specs.Codes.{codedDone, codedRead, codedTold}
 
 -- Power-on, whatever the memory.
 abbrev pub PowersOn : List ℕ → Card → Type 0

@@ -6,12 +6,12 @@ use Rattle.regs.specs.declared.Card.{Card}
 use Rattle.talk.specs.declared.Driver.{Driver}
 use Rattle.opening.specs.declared.Opened.{Opened}
 use Rattle.sending.specs.declared.Sent.{Sent}
-use Rattle.service.specs.declared.Serviced.{Serviced}
+use Rattle.serving.specs.declared.Serviced.{Serviced}
 use Rattle.driver.specs.Calls as call
-use Rattle.abi.specs.declared.drivers.DriverDone.{DriverDone}
-use Rattle.abi.specs.declared.drivers.DriverSent.{DriverSent}
-use Rattle.abi.specs.declared.drivers.DriverServed.{DriverServed}
-use Rattle.abi.specs.Codes.{codedOpened, codedSent, codedServed}
+use Rattle.codes.specs.declared.drivers.DriverDone.{DriverDone}
+use Rattle.codes.specs.declared.drivers.DriverSent.{DriverSent}
+use Rattle.codes.specs.declared.drivers.DriverServed.{DriverServed}
+use Rattle.codes.specs.Codes.{codedOpened, codedSent, codedServed}
 
 abbrev pub Opens : Card → List ℕ → List ℕ → Driver → ℕ → ℕ → ℕ → DriverDone → List ℕ → List ℕ → Type 0
 Opens c ram dir d w₀ w₁ w₂ r ram′ dir′ = (x : Opened) × ((r ≡ codedOpened x) × call.Opens c ram dir d w₀ w₁ w₂ x ram′ dir′)

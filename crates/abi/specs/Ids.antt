@@ -1,24 +1,17 @@
 -- One card on the ID port: refused with 1, then with 12 for a port that is not 1x0h; else the card's ID state takes the step and is seated. Assumes nothing.
 use mathlib.Core.Path.{_≡_}
-use mathlib.Core.Bool.{Bool, cond, _&&_}
+use mathlib.Core.Bool.{cond}
 use mathlib.Core.List.{List}
-use Prim.Native.Nat.{ℕ, _/_, _%_}
-use lib.Dec.{eqb}
+use Prim.Native.Nat.{ℕ}
 use Rattle.idport.specs.declared.IdState.{IdState}
 use Rattle.idport.specs.Card.{idWrite, idBit, idAfterRead}
 use Rattle.regs.specs.declared.Card.{Card}
 use Rattle.regs.specs.View.{view, soundCard}
 use Rattle.steps.specs.Event as event
 use Rattle.card.specs.Calls.{judged, Does}
-use Rattle.abi.specs.declared.cards.CardDone.{CardDone}
+use Rattle.port_cards.specs.Gathered.{isPort, digitOf}
+use Rattle.codes.specs.declared.cards.CardDone.{CardDone}
 use Rattle.abi.specs.declared.ids.CardBit.{CardBit}
-
-abbrev pub isPort : ℕ → Bool
-isPort port = eqb (port % 16) 0 && eqb (port / 256) 1
-
--- x of port 1x0h
-abbrev pub digitOf : ℕ → ℕ
-digitOf port = port / 16 % 16
 
 abbrev pub refusal : Card → List ℕ → List ℕ → ℕ → ℕ
 refusal c ram dir port = judged (soundCard c ram dir) (isPort port) 12

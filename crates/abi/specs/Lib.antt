@@ -1,5 +1,4 @@
 -- What the contracts of the exported functions cite.
-pub mod Codes
 pub mod Cards
 pub mod Ids
 pub mod Ports

@@ -5,9 +5,9 @@ use Rattle.search.specs.declared.Bus.{Bus}
 use Rattle.search.specs.declared.AfterSearch.{AfterSearch}
 use Rattle.search.specs.declared.AfterActivation.{AfterActivation}
 use Rattle.search.specs.Calls.{foundOf, activatedOf, findsCards, activatesCard}
-use Rattle.abi.specs.declared.ports.BusFound.{BusFound}
-use Rattle.abi.specs.declared.ports.BusDone.{BusDone}
-use Rattle.abi.specs.Codes.{codedFound, codedActivated}
+use Rattle.codes.specs.declared.ports.BusFound.{BusFound}
+use Rattle.codes.specs.declared.ports.BusDone.{BusDone}
+use Rattle.codes.specs.Codes.{codedFound, codedActivated}
 
 abbrev pub Finds : Bus → ℕ → BusFound → Type 0
 Finds b port r = (x : AfterSearch) × ((r ≡ codedFound x) × (foundOf x ≡ findsCards b port))

@@ -1,123 +1,10 @@
 // The card's calls.
-ghost use mathlib.Core.Path.{_≡_};
-ghost use Rattle.abi.specs.Codes.{doneCode, readCode, readValue, toldCode, toldCount, codedDone, codedRead, codedTold};
 ghost use Rattle.abi.specs.Cards as says;
-use card::AfterCall;
-use card::AfterRead;
-use card::AfterSuccess;
-use card::Done;
-use card::Read;
-use card::Told;
+use codes::cards::CardDone;
+use codes::cards::CardRead;
+use codes::cards::CardTold;
 use idport::IdState;
 use regs::Card;
-
-// The card after a call, and the code.
-#[repr(C)]
-pub struct CardDone {
-    pub card: Card,
-    pub code: u8,
-}
-
-// The card after a read, the value and the code.
-#[repr(C)]
-pub struct CardRead {
-    pub card: Card,
-    pub value: u16,
-    pub code: u8,
-}
-
-// The card after a success, how many bytes the wire was told, and the code.
-#[repr(C)]
-pub struct CardTold {
-    pub card: Card,
-    pub n: usize,
-    pub code: u8,
-}
-
-fn done_code(a: Done) -> u8
-    ensures { λ r. ⌜ r ≡ doneCode a ⌝ }
-{
-    match a {
-        Done::Done => 0,
-        Done::Refused(why) => refusal::number(why),
-    }
-}
-
-fn read_code(a: Read) -> u8
-    ensures { λ r. ⌜ r ≡ readCode a ⌝ }
-{
-    match a {
-        Read::Value(_) => 0,
-        Read::Refused(why) => refusal::number(why),
-    }
-}
-
-fn read_value(a: Read) -> u16
-    ensures { λ r. ⌜ r ≡ readValue a ⌝ }
-{
-    match a {
-        Read::Value(v) => v,
-        Read::Refused(_) => 0,
-    }
-}
-
-fn told_code(a: Told) -> u8
-    ensures { λ r. ⌜ r ≡ toldCode a ⌝ }
-{
-    match a {
-        Told::Told(_) => 0,
-        Told::Refused(why) => refusal::number(why),
-    }
-}
-
-fn told_count(a: Told) -> usize
-    ensures { λ r. ⌜ r ≡ toldCount a ⌝ }
-{
-    match a {
-        Told::Told(n) => n,
-        Told::Refused(_) => 0,
-    }
-}
-
-fn coded_done(x: AfterCall) -> CardDone
-    ensures { λ r. ⌜ r ≡ codedDone x ⌝ }
-{
-    let card = x.card;
-    let answer = x.answer;
-    let code = done_code(answer);
-    CardDone {
-        card: card,
-        code: code,
-    }
-}
-
-fn coded_read(x: AfterRead) -> CardRead
-    ensures { λ r. ⌜ r ≡ codedRead x ⌝ }
-{
-    let card = x.card;
-    let answer = x.answer;
-    let value = read_value(answer);
-    let code = read_code(answer);
-    CardRead {
-        card: card,
-        value: value,
-        code: code,
-    }
-}
-
-fn coded_told(x: AfterSuccess) -> CardTold
-    ensures { λ r. ⌜ r ≡ codedTold x ⌝ }
-{
-    let card = x.card;
-    let answer = x.answer;
-    let n = told_count(answer);
-    let code = told_code(answer);
-    CardTold {
-        card: card,
-        n: n,
-        code: code,
-    }
-}
 
 // A card at power-on with these EEPROM words.
 #[no_mangle]
@@ -139,7 +26,7 @@ pub extern "C" fn seamtrout_card_read_word(
     ensures { λ r. ⌜ says.ReadsWord c (now (ram .entry)) (now (dir .entry)) o r ⌝ }
 {
     let x = card::read_word(ram, dir, c, o);
-    coded_read(x)
+    codes::cards::coded_read(x)
 }
 
 // The host reads a byte.
@@ -153,7 +40,7 @@ pub extern "C" fn seamtrout_card_read_byte(
     ensures { λ r. ⌜ says.ReadsByte c (now (ram .entry)) (now (dir .entry)) o r ⌝ }
 {
     let x = card::read_byte(ram, dir, c, o);
-    coded_read(x)
+    codes::cards::coded_read(x)
 }
 
 // The host writes a word.
@@ -168,7 +55,7 @@ pub extern "C" fn seamtrout_card_write_word(
     ensures { λ r. ⌜ says.WritesWord c (now (ram .entry)) (now (dir .entry)) o v r (now (ram .exit)) (now (dir .exit)) ⌝ }
 {
     let x = card::write_word(ram, dir, c, o, v);
-    coded_done(x)
+    codes::cards::coded_done(x)
 }
 
 // The host writes a byte.
@@ -183,7 +70,7 @@ pub extern "C" fn seamtrout_card_write_byte(
     ensures { λ r. ⌜ says.WritesByte c (now (ram .entry)) (now (dir .entry)) o v r (now (ram .exit)) (now (dir .exit)) ⌝ }
 {
     let x = card::write_byte(ram, dir, c, o, v);
-    coded_done(x)
+    codes::cards::coded_done(x)
 }
 
 // The wire starts a frame with its first 8 bytes.
@@ -198,7 +85,7 @@ pub extern "C" fn seamtrout_card_wire_start(
 {
     let eight = *first;
     let x = card::wire_start(ram, dir, c, eight);
-    coded_done(x)
+    codes::cards::coded_done(x)
 }
 
 // The wire brings a byte.
@@ -212,7 +99,7 @@ pub extern "C" fn seamtrout_card_wire_byte(
     ensures { λ r. ⌜ says.Brings c (now (ram .entry)) (now (dir .entry)) b r (now (ram .exit)) (now (dir .exit)) ⌝ }
 {
     let x = card::wire_byte(ram, dir, c, b);
-    coded_done(x)
+    codes::cards::coded_done(x)
 }
 
 // The wire ends the frame: check sequence good, alignment good.
@@ -227,7 +114,7 @@ pub extern "C" fn seamtrout_card_wire_end(
     ensures { λ r. ⌜ says.Ends c (now (ram .entry)) (now (dir .entry)) check alignment r (now (ram .exit)) (now (dir .exit)) ⌝ }
 {
     let x = card::wire_end(ram, dir, c, check, alignment);
-    coded_done(x)
+    codes::cards::coded_done(x)
 }
 
 // A send outcome: success.
@@ -241,7 +128,7 @@ pub extern "C" fn seamtrout_card_sent(
     ensures { λ r. ⌜ says.Succeeds c (now (ram .entry)) (now (dir .entry)) (now (out .entry)) r (now (ram .exit)) (now (dir .exit)) (now (out .exit)) ⌝ }
 {
     let x = card::success(ram, dir, c, out);
-    coded_told(x)
+    codes::cards::coded_told(x)
 }
 
 // A send outcome: 16 collisions.
@@ -254,7 +141,7 @@ pub extern "C" fn seamtrout_card_collided(
     ensures { λ r. ⌜ says.Collides c (now (ram .entry)) (now (dir .entry)) r (now (ram .exit)) (now (dir .exit)) ⌝ }
 {
     let x = card::collisions(ram, dir, c);
-    coded_done(x)
+    codes::cards::coded_done(x)
 }
 
 // An ID state, as the ID port left it, is seated as the card's own.
@@ -268,5 +155,5 @@ pub extern "C" fn seamtrout_card_seat(
     ensures { λ r. ⌜ says.Seats c (now (ram .entry)) (now (dir .entry)) i r ⌝ }
 {
     let x = card::seat(ram, dir, c, i);
-    coded_done(x)
+    codes::cards::coded_done(x)
 }

@@ -1,169 +1,10 @@
 // The driver's calls.
-ghost use mathlib.Core.Path.{_≡_};
-ghost use Rattle.abi.specs.Codes.{openCode, codedOpened, sendCode, sendTicket, codedSent, serviceTold, codedServed};
 ghost use Rattle.abi.specs.Drivers as says;
-use items::Answer;
-use opening::OpenAnswer;
-use opening::Opened;
+use codes::drivers::DriverDone;
+use codes::drivers::DriverSent;
+use codes::drivers::DriverServed;
 use regs::Card;
-use sending::SendAnswer;
-use sending::Sent;
-use service::Serviced;
 use talk::Driver;
-
-// Card and driver after an open, and the code.
-#[repr(C)]
-pub struct DriverDone {
-    pub card: Card,
-    pub driver: Driver,
-    pub code: u8,
-}
-
-// Card and driver after a send, the ticket and the code.
-#[repr(C)]
-pub struct DriverSent {
-    pub card: Card,
-    pub driver: Driver,
-    pub ticket: u16,
-    pub code: u8,
-}
-
-// What a service answers. `kind`: 0 refused, 1 a report (ticket and status), 2 a status alone, 3 a frame of n bytes, 4 idle.
-#[repr(C)]
-pub struct Service {
-    pub kind: u8,
-    pub code: u8,
-    pub ticket: u16,
-    pub status: u16,
-    pub n: usize,
-}
-
-// Card and driver after a service, the answer and the accesses used.
-#[repr(C)]
-pub struct DriverServed {
-    pub card: Card,
-    pub driver: Driver,
-    pub answer: Service,
-    pub accesses: usize,
-}
-
-fn open_code(a: OpenAnswer) -> u8
-    ensures { λ r. ⌜ r ≡ openCode a ⌝ }
-{
-    match a {
-        OpenAnswer::Done => 0,
-        OpenAnswer::Refused(why) => refusal::number(why),
-    }
-}
-
-fn coded_opened(x: Opened) -> DriverDone
-    ensures { λ r. ⌜ r ≡ codedOpened x ⌝ }
-{
-    let card = x.card;
-    let driver = x.driver;
-    let answer = x.answer;
-    let code = open_code(answer);
-    DriverDone {
-        card: card,
-        driver: driver,
-        code: code,
-    }
-}
-
-fn send_code(a: SendAnswer) -> u8
-    ensures { λ r. ⌜ r ≡ sendCode a ⌝ }
-{
-    match a {
-        SendAnswer::Ticket(_) => 0,
-        SendAnswer::Refused(why) => refusal::number(why),
-    }
-}
-
-fn send_ticket(a: SendAnswer) -> u16
-    ensures { λ r. ⌜ r ≡ sendTicket a ⌝ }
-{
-    match a {
-        SendAnswer::Ticket(ticket) => ticket,
-        SendAnswer::Refused(_) => 0,
-    }
-}
-
-fn coded_sent(x: Sent) -> DriverSent
-    ensures { λ r. ⌜ r ≡ codedSent x ⌝ }
-{
-    let card = x.card;
-    let driver = x.driver;
-    let answer = x.answer;
-    let ticket = send_ticket(answer);
-    let code = send_code(answer);
-    DriverSent {
-        card: card,
-        driver: driver,
-        ticket: ticket,
-        code: code,
-    }
-}
-
-fn service_told(a: Answer) -> Service
-    ensures { λ r. ⌜ r ≡ serviceTold a ⌝ }
-{
-    match a {
-        Answer::Reported(ticket, status) => Service {
-            kind: 1,
-            code: 0,
-            ticket: ticket,
-            status: status,
-            n: 0,
-        },
-        Answer::Status(status) => Service {
-            kind: 2,
-            code: 0,
-            ticket: 0,
-            status: status,
-            n: 0,
-        },
-        Answer::Frame(n) => Service {
-            kind: 3,
-            code: 0,
-            ticket: 0,
-            status: 0,
-            n: n,
-        },
-        Answer::Idle => Service {
-            kind: 4,
-            code: 0,
-            ticket: 0,
-            status: 0,
-            n: 0,
-        },
-        Answer::Refused(why) => {
-            let code = refusal::number(why);
-            Service {
-                kind: 0,
-                code: code,
-                ticket: 0,
-                status: 0,
-                n: 0,
-            }
-        }
-    }
-}
-
-fn coded_served(x: Serviced) -> DriverServed
-    ensures { λ r. ⌜ r ≡ codedServed x ⌝ }
-{
-    let card = x.card;
-    let driver = x.driver;
-    let answer = x.answer;
-    let accesses = x.used;
-    let told = service_told(answer);
-    DriverServed {
-        card: card,
-        driver: driver,
-        answer: told,
-        accesses: accesses,
-    }
-}
 
 // Open, with the address as words 00h-02h.
 #[no_mangle]
@@ -179,7 +20,7 @@ pub extern "C" fn seamtrout_driver_open(
     ensures { λ r. ⌜ says.Opens c (now (ram .entry)) (now (dir .entry)) d w0 w1 w2 r (now (ram .exit)) (now (dir .exit)) ⌝ }
 {
     let x = driver::open(ram, dir, c, d, w0, w1, w2);
-    coded_opened(x)
+    codes::drivers::coded_opened(x)
 }
 
 // Send a packet, without its check bytes.
@@ -194,7 +35,7 @@ pub extern "C" fn seamtrout_driver_send(
     ensures { λ r. ⌜ says.Sends c (now (ram .entry)) (now (dir .entry)) d (now (packet .entry)) r (now (ram .exit)) (now (dir .exit)) ⌝ }
 {
     let x = driver::send(ram, dir, c, d, packet);
-    coded_sent(x)
+    codes::drivers::coded_sent(x)
 }
 
 // Service, with at most `budget` accesses. A frame of up to 256 bytes lands in `ahead`, a longer one in `frame`.
@@ -211,5 +52,5 @@ pub extern "C" fn seamtrout_driver_service(
     ensures { λ r. ⌜ says.Services c (now (ram .entry)) (now (dir .entry)) d budget (now (ahead .entry)) (now (frame .entry)) r (now (ram .exit)) (now (dir .exit)) (now (ahead .exit)) (now (frame .exit)) ⌝ }
 {
     let x = driver::service(ram, dir, c, d, budget, ahead, frame);
-    coded_served(x)
+    codes::drivers::coded_served(x)
 }

@@ -1,7 +1,10 @@
 // One card on the ID port. The host's reads are a wired-and over all cards: each tells what it drives, and hears what the bus carried.
 ghost use mathlib.Core.Path.{_≡_};
+ghost use mathlib.Core.Bool.{true};
+ghost use Rattle.idport.specs.Sound.{idSound};
 ghost use Rattle.abi.specs.Ids as says;
-use crate::cards::CardDone;
+use codes::cards::CardDone;
+use idport::IdState;
 use regs::Card;
 
 // The bit that a card drives, and the code.
@@ -11,18 +14,22 @@ pub struct CardBit {
     pub code: u8,
 }
 
-// Whether the port is one of 100h, 110h, .. 1F0h.
-fn is_port(port: u16) -> bool
-    ensures { λ r. ⌜ r ≡ says.isPort port ⌝ }
+// The ID state that a step at the port left is seated, unless the call is refused.
+fn seated(ram: &[u8; 8192], dir: &[u16; 1110], c: Card, port: u16, i: IdState) -> CardDone
+    requires { ⌜ (idSound (c .id) ≡ true → idSound i ≡ true) ⌝ }
+    ensures { λ r. ⌜ says.Seated (says.refusal c (now (ram .entry)) (now (dir .entry)) port) i c (now (ram .entry)) (now (dir .entry)) r ⌝ }
 {
-    (port % 16 == 0) & (port / 256 == 1)
-}
-
-// x of port 1x0h.
-fn digit(port: u16) -> u8
-    ensures { λ r. ⌜ r ≡ says.digitOf port ⌝ }
-{
-    (port / 16 % 16) as u8
+    if !regs::is_sound(ram, dir, c) {
+        return CardDone { card: c, code: 1 };
+    }
+    if !port_cards::is_port(port) {
+        return CardDone { card: c, code: 12 };
+    }
+    let card = steps::seat(ram, dir, c, i);
+    CardDone {
+        card: card,
+        code: 0,
+    }
 }
 
 // A byte written to the ID port, as this card sees it.
@@ -36,18 +43,8 @@ pub extern "C" fn seamtrout_card_id_write(
 ) -> CardDone
     ensures { λ r. ⌜ says.Writes c (now (ram .entry)) (now (dir .entry)) port byte r ⌝ }
 {
-    if !regs::is_sound(ram, dir, c) {
-        return CardDone { card: c, code: 1 };
-    }
-    if !is_port(port) {
-        return CardDone { card: c, code: 12 };
-    }
-    let i = idport::id_write(c.id, digit(port), byte);
-    let card = steps::seat(ram, dir, c, i);
-    CardDone {
-        card: card,
-        code: 0,
-    }
+    let i = id_steps::written(c.id, port, byte);
+    seated(ram, dir, c, port, i)
 }
 
 // The bit that this card drives when the port is read; 1 if it drives none.
@@ -63,10 +60,10 @@ pub extern "C" fn seamtrout_card_id_bit(
     if !regs::is_sound(ram, dir, c) {
         return CardBit { bit: 0, code: 1 };
     }
-    if !is_port(port) {
+    if !port_cards::is_port(port) {
         return CardBit { bit: 0, code: 12 };
     }
-    let bit = idport::id_bit(c.id, digit(port));
+    let bit = id_steps::bit(c.id, port);
     CardBit { bit: bit, code: 0 }
 }
 
@@ -81,16 +78,6 @@ pub extern "C" fn seamtrout_card_id_hear(
 ) -> CardDone
     ensures { λ r. ⌜ says.Hears c (now (ram .entry)) (now (dir .entry)) port bus r ⌝ }
 {
-    if !regs::is_sound(ram, dir, c) {
-        return CardDone { card: c, code: 1 };
-    }
-    if !is_port(port) {
-        return CardDone { card: c, code: 12 };
-    }
-    let i = idport::id_after_read(c.id, digit(port), bus);
-    let card = steps::seat(ram, dir, c, i);
-    CardDone {
-        card: card,
-        code: 0,
-    }
+    let i = id_steps::heard(c.id, port, bus);
+    seated(ram, dir, c, port, i)
 }

@@ -1,43 +1,8 @@
 // The check of an EEPROM image.
 ghost use mathlib.Core.Path.{_≡_};
 ghost use Rattle.eeprom.specs.Image.{checkOf};
-ghost use Rattle.abi.specs.Codes.{codedCheck};
-use eeprom::Checked;
-
-// The node address, words 00h to 02h, and the code.
-#[repr(C)]
-pub struct ImageChecked {
-    pub node0: u16,
-    pub node1: u16,
-    pub node2: u16,
-    pub code: u8,
-}
-
-fn coded_check(a: Checked) -> ImageChecked
-    ensures { λ r. ⌜ r ≡ codedCheck a ⌝ }
-{
-    match a {
-        Checked::Sound {
-            node0,
-            node1,
-            node2,
-        } => ImageChecked {
-            node0: node0,
-            node1: node1,
-            node2: node2,
-            code: 0,
-        },
-        Checked::Refused(why) => {
-            let code = refusal::number(why);
-            ImageChecked {
-                node0: 0,
-                node1: 0,
-                node2: 0,
-                code: code,
-            }
-        }
-    }
-}
+ghost use Rattle.codes.specs.Codes.{codedCheck};
+use codes::images::ImageChecked;
 
 // Checks an image of any length.
 #[no_mangle]
@@ -45,5 +10,5 @@ pub extern "C" fn seamtrout_image_checked(image: &[u8]) -> ImageChecked
     ensures { λ r. ⌜ r ≡ codedCheck (checkOf (now (image .entry))) ⌝ }
 {
     let x = eeprom::check(image);
-    coded_check(x)
+    codes::images::coded_check(x)
 }

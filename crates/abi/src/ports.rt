@@ -1,110 +1,8 @@
 // Several cards on one ID port: the search and the activation of a found card.
-ghost use mathlib.Core.Path.{_≡_};
-ghost use Rattle.abi.specs.Codes.{foundCode, foundCount, foundAccesses, codedFound, activatedCode, activatedAccesses, codedActivated};
 ghost use Rattle.abi.specs.Ports as says;
-use search::Activation;
-use search::AfterActivation;
-use search::AfterSearch;
+use codes::ports::BusDone;
+use codes::ports::BusFound;
 use search::Bus;
-use search::Found;
-
-// The cards after a search; the addresses found, how many they are, the accesses used, and the code.
-#[repr(C)]
-pub struct BusFound {
-    pub bus: Bus,
-    pub addresses: [u64; 7],
-    pub count: usize,
-    pub accesses: usize,
-    pub code: u8,
-}
-
-// The cards after an activation, the accesses used, and the code.
-#[repr(C)]
-pub struct BusDone {
-    pub bus: Bus,
-    pub accesses: usize,
-    pub code: u8,
-}
-
-fn found_code(a: Found) -> u8
-    ensures { λ r. ⌜ r ≡ foundCode a ⌝ }
-{
-    match a {
-        Found::Refused(why) => refusal::number(why),
-        Found::Cards {
-            count: _,
-            accesses: _,
-        } => 0,
-    }
-}
-
-fn found_count(a: Found) -> usize
-    ensures { λ r. ⌜ r ≡ foundCount a ⌝ }
-{
-    match a {
-        Found::Refused(_) => 0,
-        Found::Cards { count, accesses: _ } => count,
-    }
-}
-
-fn found_accesses(a: Found) -> usize
-    ensures { λ r. ⌜ r ≡ foundAccesses a ⌝ }
-{
-    match a {
-        Found::Refused(_) => 0,
-        Found::Cards { count: _, accesses } => accesses,
-    }
-}
-
-fn coded_found(x: AfterSearch) -> BusFound
-    ensures { λ r. ⌜ r ≡ codedFound x ⌝ }
-{
-    let bus = x.bus;
-    let answer = x.answer;
-    let addresses = x.addresses;
-    let count = found_count(answer);
-    let accesses = found_accesses(answer);
-    let code = found_code(answer);
-    BusFound {
-        bus: bus,
-        addresses: addresses,
-        count: count,
-        accesses: accesses,
-        code: code,
-    }
-}
-
-fn activated_code(a: Activation) -> u8
-    ensures { λ r. ⌜ r ≡ activatedCode a ⌝ }
-{
-    match a {
-        Activation::Refused(why) => refusal::number(why),
-        Activation::Done { accesses: _ } => 0,
-    }
-}
-
-fn activated_accesses(a: Activation) -> usize
-    ensures { λ r. ⌜ r ≡ activatedAccesses a ⌝ }
-{
-    match a {
-        Activation::Refused(_) => 0,
-        Activation::Done { accesses } => accesses,
-    }
-}
-
-fn coded_activated(x: AfterActivation) -> BusDone
-    ensures { λ r. ⌜ r ≡ codedActivated x ⌝ }
-{
-    let bus = x.bus;
-    let answer = x.answer;
-    let accesses = activated_accesses(answer);
-    let code = activated_code(answer);
-    BusDone {
-        bus: bus,
-        accesses: accesses,
-        code: code,
-    }
-}
 
 // The search: the cards found are tagged from 1 on.
 #[no_mangle]
@@ -112,7 +10,7 @@ pub extern "C" fn seamtrout_bus_search(b: Bus, port: u16) -> BusFound
     ensures { λ r. ⌜ says.Finds b port r ⌝ }
 {
     let x = search::find_cards(b, port);
-    coded_found(x)
+    codes::ports::coded_found(x)
 }
 
 // Activation of the card with this tag at this base number; 31 means preconfigured.
@@ -121,5 +19,5 @@ pub extern "C" fn seamtrout_bus_activate(b: Bus, port: u16, tag: u8, base: u8) -
     ensures { λ r. ⌜ says.Activates b port tag base r ⌝ }
 {
     let x = search::activate_card(b, port, tag, base);
-    coded_activated(x)
+    codes::ports::coded_activated(x)
 }

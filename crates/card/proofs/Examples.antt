@@ -1,4 +1,4 @@
--- Worked examples of the refusals, by computing. Assumes nothing.
+-- Worked examples of refusal 1, by computing; those of the others stand in `card_tests`. Assumes nothing.
 use mathlib.Core.Path.{_≡_, refl}
 use mathlib.Core.Bool.{true, false}
 use mathlib.Core.List.{[]}
@@ -23,7 +23,7 @@ use Rattle.regs.specs.Room.{rxSize, txSize}
 use Rattle.regs.specs.Status.{interrupting}
 use Rattle.regs.specs.Sound.{selectSound}
 use Rattle.regs.specs.View.{view, soundCard}
-use Rattle.card.specs.Calls.{judged, isWord, isByte, offWire, onWire}
+use Rattle.card.specs.Calls.{judged, isWord}
 
 -- a card at power-on but for its window; its memory matters to no frame and no packet
 inWindow : ℕ → Card
@@ -54,39 +54,3 @@ unsound-in-8 = refl
 state-unsound : judged (soundCard (inWindow 8) [] []) (isWord 0x0E) 12 ≡ 1
 unfolding judged inWindow soundCard view idSound selectSound rx.soundSide tx.soundSide fifo.soundFifo fifo.partOf soundOutcomes frames roomOf room rxs.inOrder rxs.earlySettled readable complete some queue.room queue.free allSized due interrupting rxSize txSize
 state-unsound = refl
-
--- .. and 1 comes before 12
-unsound-first : judged false (isWord 0x10) 12 ≡ 1
-unfolding judged
-unsound-first = refl
-
--- 12: an offset above 0Fh, an odd offset for a word, a byte at 00h to 03h in window 1
-above : judged true (isWord 0x10) 12 ≡ 12
-unfolding judged
-above = refl
-
-odd : judged true (isWord 0x0D) 12 ≡ 12
-unfolding judged
-odd = refl
-
-data-byte : judged true (isByte 1 0x03) 12 ≡ 12
-unfolding judged
-data-byte = refl
-
--- .. but not at 04h, nor in another window
-timer-byte : judged true (isByte 1 0x04) 12 ≡ 0
-unfolding judged
-timer-byte = refl
-
-station-byte : judged true (isByte 2 0x00) 12 ≡ 0
-unfolding judged
-station-byte = refl
-
--- 11: a start inside a frame, a byte without a start
-start-inside : judged true (offWire 1) 11 ≡ 11
-unfolding judged
-start-inside = refl
-
-byte-without : judged true (onWire 0) 11 ≡ 11
-unfolding judged
-byte-without = refl

@@ -1,11 +1,12 @@
 -- The public calls: which refusal comes or which answer, and what becomes of card and memory. Assumes nothing.
 use mathlib.Core.Path.{_≡_}
-use mathlib.Core.Bool.{Bool, cond, not, _&&_}
 use mathlib.Core.List.{List, _++_}
-use Prim.Native.Nat.{ℕ, zero, suc, _%_}
-use lib.Dec.{ltb, leb, eqb}
+use Prim.Native.Nat.{ℕ, zero, suc}
 use lib.ListN.{length, drop}
 use Rattle.refusal.specs.Number.{numberOf}
+-- which refusal comes
+unfoldable pub use Rattle.card_tests.specs.Tests.{judged}
+pub use Rattle.card_tests.specs.Tests.{isWord, isByte, offWire, onWire}
 use Rattle.regs.specs.declared.Card.{Card}
 use Rattle.regs.specs.Adapter.{Adapter}
 use Rattle.regs.specs.View.{Stands}
@@ -33,24 +34,6 @@ doneReply (finished.Refused why) = refused (numberOf why)
 abbrev pub toldReply : Told → Reply
 toldReply (told.Told n) = value n
 toldReply (told.Refused why) = refused (numberOf why)
-
--- The order of the refusals: 1 if the state is unsound, then the call's own number; 0 is none.
-unfoldable pub judged : Bool → Bool → ℕ → ℕ
-judged sound ok number = cond sound (cond ok 0 number) 1
-
--- 12: register offset above 0Fh, odd offset for a word, a byte access at 00h to 03h in window 1.
-abbrev pub isWord : ℕ → Bool
-isWord o = leb o 15 && eqb (o % 2) 0
-
-abbrev pub isByte : ℕ → ℕ → Bool
-isByte window o = leb o 15 && not (ltb o 4 && eqb window 1)
-
--- 11: a byte or an end without a start, a start inside a frame.
-abbrev pub offWire : ℕ → Bool
-offWire wire = eqb wire 0
-
-abbrev pub onWire : ℕ → Bool
-onWire wire = not (eqb wire 0)
 
 -- a refusal, or the answer of the step
 unfoldable pub replying : ℕ → Reply → Reply

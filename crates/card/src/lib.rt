@@ -54,7 +54,7 @@ pub fn read_word(ram: &[u8; 8192], dir: &[u16; 1110], c: Card, o: u16) -> AfterR
             answer: Read::Refused(Refusal::StateUnsound),
         };
     }
-    if !((o <= 15) & (o % 2 == 0)) {
+    if !card_tests::is_word(o) {
         return AfterRead {
             card: c,
             answer: Read::Refused(Refusal::ArgumentOutside),
@@ -79,7 +79,7 @@ pub fn read_byte(ram: &[u8; 8192], dir: &[u16; 1110], c: Card, o: u16) -> AfterR
             answer: Read::Refused(Refusal::StateUnsound),
         };
     }
-    if !((o <= 15) & !((o < 4) & (c.select.window == 1))) {
+    if !card_tests::is_byte(c.select.window, o) {
         return AfterRead {
             card: c,
             answer: Read::Refused(Refusal::ArgumentOutside),
@@ -104,7 +104,7 @@ pub fn write_word(ram: &mut [u8; 8192], dir: &mut [u16; 1110], c: Card, o: u16, 
             answer: Done::Refused(Refusal::StateUnsound),
         };
     }
-    if !((o <= 15) & (o % 2 == 0)) {
+    if !card_tests::is_word(o) {
         return AfterCall {
             card: c,
             answer: Done::Refused(Refusal::ArgumentOutside),
@@ -127,7 +127,7 @@ pub fn write_byte(ram: &mut [u8; 8192], dir: &mut [u16; 1110], c: Card, o: u16, 
             answer: Done::Refused(Refusal::StateUnsound),
         };
     }
-    if !((o <= 15) & !((o < 4) & (c.select.window == 1))) {
+    if !card_tests::is_byte(c.select.window, o) {
         return AfterCall {
             card: c,
             answer: Done::Refused(Refusal::ArgumentOutside),
@@ -150,7 +150,7 @@ pub fn wire_start(ram: &mut [u8; 8192], dir: &mut [u16; 1110], c: Card, first: [
             answer: Done::Refused(Refusal::StateUnsound),
         };
     }
-    if !(c.receive.receiver.wire == 0) {
+    if !card_tests::off_wire(c.receive.receiver.wire) {
         return AfterCall {
             card: c,
             answer: Done::Refused(Refusal::OutOfTurn),
@@ -173,7 +173,7 @@ pub fn wire_byte(ram: &mut [u8; 8192], dir: &mut [u16; 1110], c: Card, b: u8) ->
             answer: Done::Refused(Refusal::StateUnsound),
         };
     }
-    if c.receive.receiver.wire == 0 {
+    if !card_tests::on_wire(c.receive.receiver.wire) {
         return AfterCall {
             card: c,
             answer: Done::Refused(Refusal::OutOfTurn),
@@ -202,7 +202,7 @@ pub fn wire_end(
             answer: Done::Refused(Refusal::StateUnsound),
         };
     }
-    if c.receive.receiver.wire == 0 {
+    if !card_tests::on_wire(c.receive.receiver.wire) {
         return AfterCall {
             card: c,
             answer: Done::Refused(Refusal::OutOfTurn),

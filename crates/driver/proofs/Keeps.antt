@@ -12,12 +12,13 @@ use Rattle.store.specs.Store.{round4}
 use Rattle.regs.specs.Adapter.{Adapter}
 use Rattle.steps.specs.Access.{Access, access}
 use Rattle.talk.specs.declared.Driver.{Driver}
-use Rattle.talk.specs.Registers.{unfit, txComplete, rxComplete}
+use Rattle.talk.specs.Registers.{unfit, txComplete, rxComplete, bad}
 use Rattle.talk.specs.Talk.{Talk, done, ask, run, readWords, writeWords}
 use Rattle.talk.specs.Driver.{driverSound, withError}
 use Rattle.items.specs.Items.{Serving, isError, seen, reports, reportTalk, idleTalk, fetchTalk, wordsIn}
-use Rattle.service.specs.Service.{bad, lookTalk, receiveTalk, dropTalk}
-use Rattle.sending.specs.Send.{Sending, outside, packetWords, sendTalk}
+use Rattle.service.specs.Service.{lookTalk, receiveTalk, dropTalk}
+use Rattle.talk.specs.Packet.{outside, packetWords}
+use Rattle.sending.specs.Send.{Sending, sendTalk}
 
 -- every run of a tree ends with an answer of which P holds
 abbrev Always : {A : Type 0} → (A → Type 0) → Talk A → Type 0

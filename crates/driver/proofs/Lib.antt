@@ -2,4 +2,4 @@
 pub mod Ways
 pub mod Keeps
 pub mod HandUp
-pub mod Unfit
+mod Examples

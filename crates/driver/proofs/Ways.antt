@@ -17,9 +17,10 @@ use Rattle.talk.specs.Driver.{driverSound}
 use Rattle.items.specs.declared.Answer.the-variants as serving
 use Rattle.items.specs.Items.{Serving, plain}
 use Rattle.items.specs.Areas.{inLook, inFrame}
-use Rattle.service.specs.declared.Serviced.{Serviced}
+use Rattle.serving.specs.declared.Serviced.{Serviced}
 use Rattle.service.specs.Service.{lookTalk}
-use Rattle.service.specs.Serves.{Serves, Unmoved}
+use Rattle.service.specs.Serves.{Unmoved}
+use Rattle.serving.specs.Serving.{Serves}
 use Rattle.opening.specs.declared.Opened.{Opened}
 use Rattle.opening.specs.declared.OpenAnswer.the-variants as opening
 use Rattle.opening.specs.Open.{openTalk}
@@ -28,7 +29,7 @@ use Rattle.sending.specs.declared.Sent.{Sent}
 use Rattle.sending.specs.declared.SendAnswer.the-variants as sending
 use Rattle.sending.specs.Send.{sendTalk}
 use Rattle.sending.specs.Sends as inner-send
-use Rattle.driver.proofs.Unfit.{unfit-at-once}
+use Rattle.unfit.proofs.Unfit.{unfit-at-once}
 use Rattle.driver.specs.Calls.{soundState, large, openCall, sendCall, serviceCall, Opens, Sends, ServiceCall, Services}
 
 -- a refusal that is passed

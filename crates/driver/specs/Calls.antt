@@ -14,7 +14,7 @@ use Rattle.talk.specs.Driver.{driverSound}
 use Rattle.items.specs.declared.Answer.the-variants as serving
 use Rattle.items.specs.Items.{Serving, plain}
 use Rattle.items.specs.Areas.{inLook, inFrame}
-use Rattle.service.specs.declared.Serviced.{Serviced}
+use Rattle.serving.specs.declared.Serviced.{Serviced}
 use Rattle.service.specs.Service.{lookTalk}
 use Rattle.opening.specs.declared.Opened.{Opened}
 use Rattle.opening.specs.declared.OpenAnswer.the-variants as opening

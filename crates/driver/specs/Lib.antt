@@ -2,4 +2,3 @@
 pub mod Calls
 pub mod Paper
 pub mod HandUp
-pub mod Unfit

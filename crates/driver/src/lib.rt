@@ -4,7 +4,6 @@ ghost use lib.ListN.{length};
 ghost use denote.Ref.{ptr};
 ghost use Rattle.driver.specs.Calls.{soundState, Opens, Sends, Services};
 ghost use Rattle.driver.specs.HandUp.{area, handed};
-ghost use Rattle.driver.specs.Unfit.{Unfit-comes-at-once};
 use items::Answer;
 use opening::OpenAnswer;
 use opening::Opened;
@@ -12,7 +11,7 @@ use refusal::Refusal;
 use regs::Card;
 use sending::SendAnswer;
 use sending::Sent;
-use service::Serviced;
+use serving::Serviced;
 use talk::Driver;
 
 // The soundness of card and driver together.
@@ -105,7 +104,7 @@ pub fn service(
             used: 0,
         };
     }
-    service::serve(ram, dir, c, d, ahead, frame, budget as usize)
+    serving::serve(ram, dir, c, d, ahead, frame, budget as usize)
 }
 
 // The part of the areas that a frame of n bytes was handed up in; empty if its area does not hold n bytes.
@@ -123,8 +122,3 @@ pub fn hand_up<'a>(ahead: &'a [u8], frame: &'a [u8], n: usize) -> &'a [u8]
     }
     &frame[..0]
 }
-
-// Refusal 5 comes at the first Status read of a service or not at all.
-pub fn unfit_comes_at_once()
-    ensures { λ _. ⌜ Unfit-comes-at-once ⌝ }
-{}

@@ -17,7 +17,8 @@ use Rattle.talk.specs.Talk.{Ran, run}
 use Rattle.items.specs.declared.Answer.{Answer}
 use Rattle.items.specs.declared.Answer.the-variants.{Reported, Status, Idle, Frame, Refused}
 use Rattle.items.specs.Items.{Serving, wordsIn}
-use Rattle.service.specs.Service.{bad, lookTalk}
+use Rattle.talk.specs.Registers.{bad}
+use Rattle.service.specs.Service.{lookTalk}
 use Rattle.sending.specs.Send.{Sending, sendTalk}
 use Rattle.driver.specs.Calls.{serviceCall}
 use Rattle.driver_examples.specs.Ready.{on, ready, opened, frame}

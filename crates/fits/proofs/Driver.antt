@@ -13,7 +13,7 @@ use Rattle.talk.specs.Talk.{Talk, Ran, run}
 use Rattle.items.specs.declared.Answer.{Answer}
 use Rattle.items.specs.declared.Answer.the-variants as serving
 use Rattle.items.specs.Items.{Serving}
-use Rattle.service.specs.declared.Serviced.{Serviced}
+use Rattle.serving.specs.declared.Serviced.{Serviced}
 use Rattle.service.specs.Service.{lookTalk}
 use Rattle.opening.specs.declared.OpenAnswer.{OpenAnswer}
 use Rattle.opening.specs.declared.OpenAnswer.the-variants as opening

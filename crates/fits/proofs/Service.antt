@@ -11,12 +11,12 @@ use Rattle.laws.proofs.Tests.{of-cond}
 use Rattle.regs.specs.Adapter.{Adapter}
 use Rattle.steps.specs.Access.{Access, access}
 use Rattle.talk.specs.declared.Driver.{Driver}
-use Rattle.talk.specs.Registers.{unfit, txComplete, rxComplete}
+use Rattle.talk.specs.Registers.{unfit, txComplete, rxComplete, bad}
 use Rattle.talk.specs.Talk.{Talk, done, ask, run, readWords}
 use Rattle.talk.specs.Driver.{withError}
 use Rattle.items.specs.declared.Answer.the-variants.{Reported, Status, Frame, Idle, Refused}
 use Rattle.items.specs.Items.{Serving, plain, short, isError, seen, reports, reportTalk, idleTalk, fetchTalk, wordsIn}
-use Rattle.service.specs.Service.{bad, lookTalk, receiveTalk, dropTalk}
+use Rattle.service.specs.Service.{lookTalk, receiveTalk, dropTalk}
 
 -- the ways that a service which is begun can end
 pub record Ways (P : Serving → Type 0) : Type 0 where

@@ -29,7 +29,7 @@ use Rattle.card.specs.Contracts as contract
 use Rattle.talk.specs.declared.Driver.{Driver}
 use Rattle.opening.specs.declared.Opened.{Opened}
 use Rattle.sending.specs.declared.Sent.{Sent}
-use Rattle.service.specs.declared.Serviced.{Serviced}
+use Rattle.serving.specs.declared.Serviced.{Serviced}
 use Rattle.driver.specs.Paper.{openPaper, sendPaper, servicePaper}
 use Rattle.driver.specs.Calls.{Opens, Sends, Services}
 use Rattle.driver.specs.HandUp.{area, handed}

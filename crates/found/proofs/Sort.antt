@@ -47,6 +47,11 @@ distinct-others m (x ∷ xs) (h, d) = go (eqb x m) (distinct-others m xs d)
     go true q = q
     go false q = (all-others (λ y. x ≡ y → ⊥) m xs h, q)
 
+-- an example
+in-order : ascending (7 ∷ 3 ∷ 1 ∷ []) ≡ 1 ∷ 3 ∷ 7 ∷ []
+unfolding ascending insert
+in-order = refl
+
 insert-low : (m : ℕ) (ys : List ℕ) → All (λ y. m ≤ y) ys → insert m ys ≡ m ∷ ys
 unfolding insert
 insert-low m [] a = refl

@@ -5,11 +5,12 @@ use mathlib.Core.Path.{_≡_, refl, _∙_, ap}
 use mathlib.Core.Bool.{true}
 use mathlib.Core.List.{List, [], _∷_, map}
 use native.Mathlib.Omega.{arith}
+use lib.ListN.{length}
 use Rattle.idport.specs.declared.IdState.{IdState}
 use Rattle.idport.specs.Card.{waiting}
-use Rattle.search.specs.Port.{Talk, done, run}
-use Rattle.search.specs.Search.{puts, idBytes}
-use Rattle.found.specs.Theorems.{Here, oneZero, obedient, One-zero-misses-a-card}
+use Rattle.search.specs.Port.{portWrite, value, after, Talk, done, run}
+use Rattle.search.specs.Search.{puts, idBytes, callUp}
+use Rattle.found.specs.Theorems.{Here, oneZero, twoZeros, obedient, One-zero-misses-a-card}
 use Rattle.found.proofs.Run.{wrote, writes-all}
 use Rattle.found.proofs.Called.{nonzero, roused, calls}
 use Rattle.found.proofs.Round.{deaf}
@@ -28,6 +29,11 @@ unfolding run puts wrote silent
 one p s h c q =
     let l = writes-all p (0 ∷ idBytes 0 255) silent (s ∷ []) in
     l .left ∙ ap (λ (t : IdState). t ∷ []) (ap (wrote p (idBytes 0 255)) (roused p s c q) ∙ missed p 255 0 s h refl)
+
+-- two zeros and 255 bytes
+calls-up : length (run 1 twoZeros [] .accesses) ≡ 257
+unfolding run value after portWrite puts idBytes callUp
+calls-up = refl
 
 pub one-zero-misses : One-zero-misses-a-card
 unfolding run silent

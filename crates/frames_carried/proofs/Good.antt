@@ -7,21 +7,17 @@ use native.Mathlib.Omega.{arith}
 use borrow.Author.Tests.{leb-true, le-leb, lt-leb, ltb-true, ltb-false, le-ltb, eq-eqb, not-true}
 use lib.ListN.{length, getD}
 use lib.Dec.{leb, ltb, eqb}
-use Rattle.laws.proofs.Tests.{both, join, never, by-test, of-cond}
+use Rattle.laws.proofs.Tests.{both, join, neither, never, by-test, of-cond}
 use Rattle.store.specs.Store.{atNewest}
 use Rattle.receive.specs.Frame.{State, coming, whole, damaged, Frame, isComing, overran, room}
 use Rattle.receive.specs.Wire.{fresh, full, marked, takes, ending, endOf, ends}
 use Rattle.receive.specs.Reading.{marks, unread, complete}
 use Rattle.receive.specs.Sound.{sized, started, ended, inOrder}
 use Rattle.receive.proofs.Taking.{takes-none, takes-marks, takes-longer}
-use Rattle.service.specs.Service.{bad}
+use Rattle.talk.specs.Registers.{bad}
 use Rattle.frames_carried.specs.Bytes.{octets, codeFits, holdable}
 use Rattle.frames_carried.specs.Brings.{ifGood, good, newest, isWhole, noCode}
 use Rattle.frames_carried.specs.Reads.{offered}
-
-pub or-false : (a b : Bool) → (a || b) ≡ false → (a ≡ false) × (b ≡ false)
-or-false true b e = never (sym e)
-or-false false b e = (refl, e)
 
 -- ---- good frames
 
@@ -259,12 +255,12 @@ unfolding isComing codeFits marks isWhole
 fine-status (coming o) n c k h b = never (sym c)
 fine-status whole n c k h b =
     let e : shows whole n % 2048 ≡ n = omega arith in
-    let p = or-false (ltb (shows whole n % 2048) 60) (ltb 1514 (shows whole n % 2048)) (or-false (eqb (shows whole n / 16384 % 2) 1) _ b .1) in
+    let p = neither (ltb (shows whole n % 2048) 60) (ltb 1514 (shows whole n % 2048)) (neither (eqb (shows whole n / 16384 % 2) 1) _ b .1) in
     record { whole = refl; count = e; long = rw e at (ltb-false (shows whole n % 2048) 60 (p .0)); short = rw e at (ltb-false 1514 (shows whole n % 2048) (p .1)) }
 fine-status (damaged j) n c k h b =
     let small : j < 8 = ltb-true j 8 k in
     let e : shows (damaged j) n / 16384 % 2 ≡ 1 = omega arith in
-    never (sym (or-false (eqb (shows (damaged j) n / 16384 % 2) 1) _ b .0) ∙ eq-eqb (shows (damaged j) n / 16384 % 2) 1 e)
+    never (sym (neither (eqb (shows (damaged j) n / 16384 % 2) 1) _ b .0) ∙ eq-eqb (shows (damaged j) n / 16384 % 2) 1 e)
 
 pub bad-none : (s : State) (bytes : List ℕ) → length bytes ≤ 1792 → bad (shows s (length bytes)) ≡ true → ifGood s bytes ≡ []
 unfolding marks ifGood

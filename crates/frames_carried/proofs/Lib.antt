@@ -2,7 +2,6 @@
 pub mod Still
 pub mod Good
 pub mod Memory
-pub mod Status
 pub mod Fetch
 pub mod Service
 pub mod Events

@@ -9,7 +9,7 @@ use lib.ListN.{length, take, drop, replicate, length-append, length-replicate}
 use lib.Dec.{leb, eqb}
 use Rattle.refusal.specs.declared.Refusal.the-variants.{NeverOpened, AreaShort}
 use Rattle.bits.specs.Bits.{has}
-use Rattle.laws.proofs.Tests.{join}
+use Rattle.laws.proofs.Tests.{join, neither}
 use Rattle.store.specs.Store.{atNewest, round4}
 use Rattle.store.proofs.Laws.{at-snoc}
 use Rattle.receive.specs.Frame.{whole, Frame, isComing, overran, room}
@@ -27,13 +27,13 @@ use Rattle.steps.specs.Access.{ReadWord, WriteWord, step, access}
 use Rattle.steps.specs.Event as card
 use Rattle.card.specs.Calls.{onWire, offWire}
 use Rattle.talk.specs.declared.Driver.{Driver}
-use Rattle.talk.specs.Registers.{unfit, txComplete, rxComplete}
+use Rattle.talk.specs.Registers.{unfit, txComplete, rxComplete, bad}
 use Rattle.talk.specs.Talk.{Talk, done, Ran, run, afterReads, bytesRead}
 use Rattle.talk.proofs.Runs.{reads-law}
 use Rattle.items.specs.declared.Answer.the-variants as answer
 use Rattle.items.specs.Areas.{inLook, inFrame}
 use Rattle.items.specs.Items.{Serving, plain, fetchTalk, wordsIn}
-use Rattle.service.specs.Service.{bad, lookTalk}
+use Rattle.service.specs.Service.{lookTalk}
 use Rattle.driver.specs.Calls.{serviceCall}
 use Rattle.driver.specs.Paper.{frame}
 use Rattle.runs.specs.Run.{Bench, soundBench, withAdapter, Areas, full, Start, Byte, End, served, serves, serving, wire, taken, next, said, after}
@@ -41,9 +41,9 @@ use Rattle.runs.proofs.Kept.{adapter-of}
 use Rattle.frames_carried.specs.Brings.{stored}
 use Rattle.frames_carried.specs.Reads.{laidIn}
 use Rattle.frames_carried.specs.Carried.{Taken, One-good-frame-is-stored, Waiting, One-good-frame-is-handed-up}
-use Rattle.frames_carried.proofs.Good.{or-false, shows, whole-fine}
+use Rattle.frames_carried.proofs.Good.{shows, whole-fine}
 use Rattle.frames_carried.proofs.Fetch.{At}
-use Rattle.frames_carried.proofs.Status.{status-window, status-received, status-completed, status-failed}
+use Rattle.talk.proofs.Status.{status-window, status-received, status-completed, status-failed}
 use Rattle.frames_carried.proofs.Service.{read-status, read-rx, dropped, all-read, after-all}
 
 -- ---- stored
@@ -145,7 +145,7 @@ module _ (b : Bench) (sound : soundBench b ≡ true) (bytes : List ℕ) (behind 
     outset =
         record {
           frames = h .oldest;
-          failed = or-false (a .rx .receiver .failed) (a .tx .queue .failed) (h .no-failure) .0;
+          failed = neither (a .rx .receiver .failed) (a .tx .queue .failed) (h .no-failure) .0;
           read = h .none-read;
           active = h .active;
           window = h .window;

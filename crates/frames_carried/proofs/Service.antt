@@ -25,20 +25,20 @@ use Rattle.window_read.specs.Read.{wordAt, afterWord}
 use Rattle.steps.specs.Access.{ReadWord, WriteWord, Step, step, effect, access}
 use Rattle.steps.proofs.Ends.{asleep, awake}
 use Rattle.talk.specs.declared.Driver.{Driver}
-use Rattle.talk.specs.Registers.{rxDiscard, unfit, txComplete, rxComplete}
+use Rattle.talk.specs.Registers.{rxDiscard, unfit, txComplete, rxComplete, bad}
 use Rattle.talk.specs.Talk.{Talk, done, order, Ran, run, afterReads, bytesRead}
 use Rattle.talk.proofs.Runs.{reads-law}
 use Rattle.items.specs.declared.Answer.the-variants.{Refused}
 use Rattle.items.specs.declared.Answer.the-variants as answer
 use Rattle.items.specs.Items.{Serving, plain, short, reportTalk, idleTalk, fetchTalk, wordsIn}
-use Rattle.service.specs.Service.{bad, lookTalk, receiveTalk, dropTalk}
+use Rattle.service.specs.Service.{lookTalk, receiveTalk, dropTalk}
 use Rattle.runs.proofs.Kept.{access-sound}
 use Rattle.frames_carried.specs.Bytes.{octets, holdable}
 use Rattle.frames_carried.specs.Brings.{ifGood, good, isWhole}
 use Rattle.frames_carried.specs.Reads.{offered}
 use Rattle.frames_carried.proofs.Still.{Still, Quiet, still-run, isFrame, Nothing, quiet-refused, quiet-report, quiet-idle}
 use Rattle.frames_carried.proofs.Good.{Intact, intact-drop, Tails, tail-same, tail-then, tail-drop, holds-first, oldest-of, oldest-sized, shows, fine-status, bad-none, one-good, offered-some}
-use Rattle.frames_carried.proofs.Status.{status-received, fit-window}
+use Rattle.talk.proofs.Status.{status-received, fit-window}
 use Rattle.frames_carried.proofs.Fetch.{status-access, discard-access, At, reads, take-pairs}
 
 -- ---- what a service keeps, and what it does

@@ -28,7 +28,8 @@ use Rattle.items.specs.declared.Answer.{Answer}
 use Rattle.items.specs.declared.Answer.the-variants as answer
 use Rattle.items.specs.Items.{Serving, plain, isError, seen, reports, reportTalk, idleTalk}
 use Rattle.opening.specs.Open.{openTalk}
-use Rattle.sending.specs.Send.{Sending, outside, packetWords, sendTalk}
+use Rattle.talk.specs.Packet.{outside, packetWords}
+use Rattle.sending.specs.Send.{Sending, sendTalk}
 
 pub record Still (a b : Adapter) : Type 0 where
   pub frames : b .rx .frames ≡ a .rx .frames

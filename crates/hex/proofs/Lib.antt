@@ -1,3 +1,4 @@
--- Laws of putting and reading.
+-- Laws of putting and reading, and examples.
+pub mod Examples
 pub mod Placed
 pub mod Spelling

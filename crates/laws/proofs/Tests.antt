@@ -1,6 +1,6 @@
 -- Laws of Bool tests. Assumes nothing.
-use mathlib.Core.Path.{_≡_, refl}
-use mathlib.Core.Bool.{Bool, true, false, cond, _&&_}
+use mathlib.Core.Path.{_≡_, refl, sym}
+use mathlib.Core.Bool.{Bool, true, false, cond, _&&_, _||_}
 use native.Mathlib.Omega.{arith}
 use Prim.Native.Nat.{ℕ}
 
@@ -21,6 +21,10 @@ pub join : (a b : Bool) → a ≡ true → b ≡ true → (a && b) ≡ true
 join true true e f = refl
 join true false e f = f
 join false b e f = e
+
+pub neither : (a b : Bool) → (a || b) ≡ false → (a ≡ false) × (b ≡ false)
+neither true b e = never (sym e)
+neither false b e = (refl, e)
 
 -- what holds of both cases holds of the choice; what the test tells is known in each
 pub of-cond : {A : Type 0} (P : A → Type 0) (b : Bool) {x y : A} → P x → P y → P (cond b x y)

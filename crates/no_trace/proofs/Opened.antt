@@ -21,12 +21,13 @@ use Rattle.steps.proofs.Ends.{asleep, awake}
 use Rattle.card.specs.Calls.{onWire, offWire}
 use Rattle.talk.specs.declared.Driver.{Driver}
 use Rattle.talk.specs.Driver.{withError}
-use Rattle.talk.specs.Registers.{unfit, txComplete, rxComplete}
+use Rattle.talk.specs.Registers.{unfit, txComplete, rxComplete, bad}
 use Rattle.talk.specs.Talk.{Talk, done, ask, run, readWords, writeWords}
 use Rattle.opening.specs.Open.{openTalk}
-use Rattle.sending.specs.Send.{Sending, outside, packetWords, sendTalk}
+use Rattle.talk.specs.Packet.{outside, packetWords}
+use Rattle.sending.specs.Send.{Sending, sendTalk}
 use Rattle.items.specs.Items.{Serving, isError, seen, reports, reportTalk, idleTalk, fetchTalk, wordsIn}
-use Rattle.service.specs.Service.{bad, lookTalk, receiveTalk, dropTalk}
+use Rattle.service.specs.Service.{lookTalk, receiveTalk, dropTalk}
 use Rattle.driver.specs.Calls.{openCall, sendCall, serviceCall}
 use Rattle.runs.specs.Run.{Bench, full, Event, Start, Byte, End, Sent, Collided, Open, Send, Service, opens, sends, serves, wire, taken, next, after}
 use Rattle.no_trace.proofs.Status.{shown}

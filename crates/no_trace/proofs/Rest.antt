@@ -19,13 +19,13 @@ use Rattle.steps.specs.Access.{Access, ReadWord, WriteWord, Step, effect, acces
 use Rattle.steps.proofs.Ends.{asleep, awake}
 use Rattle.talk.specs.declared.Driver.{Driver}
 use Rattle.talk.specs.Driver.{withError}
-use Rattle.talk.specs.Registers.{unfit, txComplete, rxComplete}
+use Rattle.talk.specs.Registers.{unfit, txComplete, rxComplete, bad}
 use Rattle.talk.specs.Talk.{Talk, done, ask, run, readWords}
 use Rattle.items.specs.declared.Answer.{Answer}
 use Rattle.items.specs.declared.Answer.the-variants as answer
 use Rattle.items.specs.declared.Answer.the-variants.{Idle, Refused}
 use Rattle.items.specs.Items.{Serving, plain, short, isError, seen, reports, reportTalk, idleTalk, fetchTalk, wordsIn}
-use Rattle.service.specs.Service.{bad, lookTalk, receiveTalk, dropTalk}
+use Rattle.service.specs.Service.{lookTalk, receiveTalk, dropTalk}
 use Rattle.driver.specs.Calls.{serviceCall}
 use Rattle.driver.specs.Paper.{Paper, servicePaper}
 use Rattle.runs.specs.Run.{Bench, Areas, full, Service, serves, next, said}

@@ -24,11 +24,11 @@ use Rattle.window_read.specs.Read.{window1, wordAt, afterWord}
 use Rattle.window_write.specs.Write.{writeWord}
 use Rattle.steps.specs.Access.{ReadWord, WriteWord, step, effect, access}
 use Rattle.talk.specs.declared.Driver.{Driver}
-use Rattle.talk.specs.Registers.{unfit, txComplete, rxComplete}
+use Rattle.talk.specs.Registers.{unfit, txComplete, rxComplete, bad}
 use Rattle.talk.specs.Talk.{Ran, run, extended}
 use Rattle.items.specs.declared.Answer.the-variants.{Idle}
 use Rattle.items.specs.Items.{Serving, plain, short, idleTalk}
-use Rattle.service.specs.Service.{bad, lookTalk}
+use Rattle.service.specs.Service.{lookTalk}
 use Rattle.no_trace.proofs.Status.{shown, seen-failed, seen-completed, seen-received}
 
 -- ---- the shapes

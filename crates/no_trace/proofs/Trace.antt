@@ -4,7 +4,7 @@ use mathlib.Core.Bool.{Bool, true, false, cond, _||_}
 use mathlib.Core.List.{List, [], _∷_, _++_, append-nil}
 use Prim.Native.Nat.{ℕ, _≤_}
 use native.Mathlib.Omega.{arith}
-use Rattle.laws.proofs.Tests.{never}
+use Rattle.laws.proofs.Tests.{never, neither}
 use Rattle.receive.specs.Reading.{readable}
 use Rattle.receive.specs.Early.{earlyFlag, toldFlag}
 use Rattle.receive.proofs.Facts.{sound-told}
@@ -29,10 +29,6 @@ use Rattle.no_trace.proofs.Opened.{Opened, opens-set, opens-driver, kee
 use Rattle.no_trace.proofs.Rest.{Calm, served-calm}
 
 -- ---- an open bench at rest, by its shape
-
-or-parts : (a b : Bool) → (a || b) ≡ false → (a ≡ false) × (b ≡ false)
-or-parts true b e = never (sym e)
-or-parts false b e = (refl, e)
 
 module _ (a : Adapter) (s : sound a ≡ true) where
   settled : Settled a
@@ -60,7 +56,7 @@ at-rest : (b : Bench) → sound (b .adapter) ≡ true → Opened b → Calm (b .
     b ≡ bench (calm (b .adapter)) (b .driver)
 at-rest b s o c e w =
     let a = b .adapter in
-    let f = or-parts (a .rx .receiver .failed) (a .tx .queue .failed) (c .failed) in
+    let f = neither (a .rx .receiver .failed) (a .tx .queue .failed) (c .failed) in
     λ i.
     record {
       adapter =

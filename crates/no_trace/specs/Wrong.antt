@@ -10,7 +10,7 @@ use Rattle.talk.specs.declared.Driver.{Driver}
 use Rattle.talk.specs.Registers.{statusPort, rxStatus, rxDiscard, rxComplete}
 use Rattle.talk.specs.Talk.{Talk, run, readWord, order}
 use Rattle.items.specs.Items.{Serving, idleTalk, fetchTalk}
-use Rattle.service.specs.Service as service
+use Rattle.talk.specs.Registers as registers
 use Rattle.runs.specs.Run.{Bench, after}
 use Rattle.no_trace.specs.Stretch.{begun, whole-frame}
 use Rattle.no_trace.specs.Examples.{opened, zeros, bad}
@@ -40,5 +40,5 @@ finished = after (whole-frame (bad (zeros 92) 5)) opened
 pub record Wrong-services-hand-up-damage : Type 0 where
   pub bit-15-for-14 : hands rxComplete (λ rx. has 32768 rx || outside rx) finished ≡ replicate 100 0
   pub first-block : hands (λ status. true) (λ rx. has 16384 rx || outside rx) unfinished ≡ replicate 100 0
-  pub right-after : hands rxComplete service.bad finished ≡ replicate 0 0
-  pub right-before : hands rxComplete service.bad unfinished ≡ replicate 0 0
+  pub right-after : hands rxComplete registers.bad finished ≡ replicate 0 0
+  pub right-before : hands rxComplete registers.bad unfinished ≡ replicate 0 0

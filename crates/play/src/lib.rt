@@ -1,7 +1,4 @@
 // Plays a script: input is read in pieces, and each line is answered as soon as it is whole.
-ghost use mathlib.Core.Path.{_≡_};
-ghost use Prim.Native.Nat.{_+_, _≤_, _<_};
-ghost use lib.ListN.{length, take};
 use libc::STDOUT_FILENO;
 use session::Bench;
 
@@ -11,66 +8,9 @@ pub struct Playing {
     pub count: usize,
 }
 
-// Where the next newline stands, from a place on; the end if there is none.
-fn until(piece: &[u8], from: usize) -> usize
-    requires { ⌜ from ≤ length (now piece) ⌝ }
-    ensures { λ r. ⌜ (from ≤ r) × (r ≤ length (now (piece .entry))) ⌝ }
-{
-    let mut i = from;
-    while i < piece.len() {
-        if piece[i] == b'\n' {
-            return i;
-        }
-        i += 1;
-    }
-    i
-}
-
-// Characters of a line, behind those that came before. There is room for a line of 8,192 and a carriage return.
-fn append(line: &mut [u8], count: usize, s: &[u8]) -> usize {
-    let mut n = count;
-    let mut i: usize = 0;
-    while i < s.len() {
-        if n >= line.len() {
-            return 8194;
-        }
-        line[n] = s[i];
-        n += 1;
-        i += 1;
-    }
-    n
-}
-
-// The length of a whole line without a carriage return at its end; 8,193 if it is too long.
-fn length_of(line: &[u8], count: usize) -> usize {
-    if count > 8193 {
-        return 8193;
-    }
-    if count == 0 {
-        return 0;
-    }
-    let last = count - 1;
-    if last < line.len() {
-        if line[last] == b'\r' {
-            return last;
-        }
-    }
-    count
-}
-
-// The first n characters, or all.
-fn front(s: &[u8], n: usize) -> &[u8]
-    ensures { λ r. ⌜ now r ≡ take n (now (s .entry)) ⌝ }
-{
-    if n < s.len() {
-        return &s[..n];
-    }
-    s
-}
-
 // An answer is written.
 fn tell(text: &[u8; 4096], len: usize) {
-    io::write_all(STDOUT_FILENO, front(text, len));
+    io::write_all(STDOUT_FILENO, lines::front(text, len));
 }
 
 // A whole line is answered.
@@ -81,25 +21,17 @@ fn answered(
     b: Bench,
     count: usize,
 ) -> Bench {
-    let n = length_of(line, count);
+    let n = lines::length_of(line, count);
     if n > 8192 {
         io::write_all(STDOUT_FILENO, b"what?\n");
         return b;
     }
     let mut text = [0u8; 4096];
-    let done = session::step(ram, dir, &mut text, b, front(line, n));
+    let done = session::step(ram, dir, &mut text, b, lines::front(line, n));
     let next = done.bench;
     let len = done.len;
     tell(&text, len);
     next
-}
-
-// The place behind a newline.
-fn past(piece: &[u8], end: usize) -> usize
-    requires { ⌜ end < length (now piece) ⌝ }
-    ensures { λ r. ⌜ r ≡ end + 1 ⌝ }
-{
-    end + 1
 }
 
 // A piece of input: every line that it makes whole is answered.
@@ -114,14 +46,14 @@ fn feed(
     let mut count = p.count;
     let mut at: usize = 0;
     while at < piece.len() {
-        let end = until(piece, at);
-        count = append(line, count, &piece[at..end]);
+        let end = lines::until(piece, at);
+        count = lines::append(line, count, &piece[at..end]);
         if end >= piece.len() {
             break;
         }
         bench = answered(ram, dir, line, bench, count);
         count = 0;
-        at = past(piece, end);
+        at = lines::past(piece, end);
     }
     Playing {
         bench: bench,

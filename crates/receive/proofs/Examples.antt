@@ -148,10 +148,20 @@ past-word : dataWord (reads 33 (wireEnd true true (arriving 61))) ≡ 0
 unfolding reads side arriving wireEnd ending atNewest overran isComing readable afterRead earlyFlag toldFlag dataWord
 past-word = refl
 
--- RX Discard does nothing then
+-- a receive failure stands, with 60 bytes to read
 failing : Rx
 failing = withReceiver (withFailed true (arriving 60 .receiver)) (arriving 60)
 
+-- a read gives 0 then and moves nothing
+not-read : dataWord failing ≡ 0
+unfolding failing arriving side dataWord
+not-read = refl
+
+not-moved : afterRead failing ≡ failing
+unfolding failing arriving side afterRead readable isComing
+not-moved = refl
+
+-- RX Discard does nothing then
 not-discarded : discard failing ≡ failing
 unfolding failing arriving side discard
 not-discarded = refl

@@ -23,7 +23,7 @@ use Rattle.talk.specs.Driver.{driverSound}
 use Rattle.talk.proofs.Runs.{writes-law}
 use Rattle.items.specs.Areas.{inLook, inFrame}
 use Rattle.items.specs.Items.{Serving}
-use Rattle.service.specs.declared.Serviced.{Serviced}
+use Rattle.serving.specs.declared.Serviced.{Serviced}
 use Rattle.service.specs.Service.{lookTalk}
 use Rattle.opening.specs.declared.Opened.{Opened}
 use Rattle.opening.specs.Open as opens
@@ -31,7 +31,8 @@ use Rattle.opening.specs.Open.{Opening, openTalk}
 use Rattle.opening.specs.Opens as inner-open
 use Rattle.sending.specs.declared.Sent.{Sent}
 use Rattle.sending.specs.Send as sends
-use Rattle.sending.specs.Send.{Sending, outside, packetWords, ticketed, sendTalk}
+use Rattle.talk.specs.Packet.{outside, packetWords}
+use Rattle.sending.specs.Send.{Sending, ticketed, sendTalk}
 use Rattle.sending.specs.Sends as inner-send
 use Rattle.driver.specs.Paper.{openPaper, sendPaper, servicePaper}
 use Rattle.driver.specs.Calls.{large, openCall, sendCall, serviceCall, ServiceCall}

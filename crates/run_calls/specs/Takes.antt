@@ -21,7 +21,7 @@ use Rattle.items.specs.declared.Answer.{Answer}
 use Rattle.items.specs.declared.Answer.the-variants as serving
 use Rattle.opening.specs.declared.Opened.{Opened}
 use Rattle.sending.specs.declared.Sent.{Sent}
-use Rattle.service.specs.declared.Serviced.{Serviced}
+use Rattle.serving.specs.declared.Serviced.{Serviced}
 use Rattle.driver.specs.Paper.{openPaper, sendPaper, servicePaper}
 use Rattle.driver.specs.Calls.{soundState, Opens, Sends, Services}
 use Rattle.driver.specs.HandUp.{handed}

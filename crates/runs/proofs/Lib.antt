@@ -1,3 +1,4 @@
--- Why every step keeps soundness, and laws of runs one after the other.
+-- Why every step keeps soundness, with an example, and laws of runs one after the other.
 pub mod Kept
 pub mod Append
+pub mod Examples

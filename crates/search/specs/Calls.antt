@@ -1,12 +1,11 @@
 -- What each public call answers and leaves, refusals first. The contracts say neither more nor less than these definitions.
 -- Assumes nothing.
-use Prim.Native.Nat.{ℕ, _-_, _/_, _%_}
-use mathlib.Core.Bool.{Bool, true, cond, _&&_}
+use Prim.Native.Nat.{ℕ, _-_}
+use mathlib.Core.Bool.{Bool, cond, _&&_}
 use mathlib.Core.List.{List, [], _∷_, _++_}
-use lib.Dec.{leb, eqb}
+use lib.Dec.{leb}
 use lib.ListN.{length, replicate}
 use Rattle.idport.specs.declared.IdState.{IdState}
-use Rattle.idport.specs.Sound.{idSound}
 use Rattle.refusal.specs.Number.{numberOf}
 use Rattle.search.specs.declared.Bus.{Bus}
 use Rattle.search.specs.declared.Wrote.{Wrote}
@@ -19,6 +18,9 @@ use Rattle.search.specs.declared.Activation.{Activation}
 use Rattle.search.specs.declared.AfterActivation.{AfterActivation}
 use Rattle.search.specs.Port.{held, seated, portWrite, portBit, portRead, Ran, run}
 use Rattle.search.specs.Search.{search, activate}
+-- the tests of the cards and of the arguments
+unfoldable pub use Rattle.port_cards.specs.Gathered.{allSound, naming}
+pub use Rattle.port_cards.specs.Gathered.{isPort, digitOf}
 
 -- An answer in the paper's terms: the number of a refusal, or the values.
 pub data Reply : Type 0 where
@@ -64,22 +66,9 @@ foundOf r = record { reply = foundReply (r .answer); places = r .addresses; bus 
 abbrev pub activatedOf : AfterActivation → Outcome
 activatedOf r = record { reply = activationReply (r .answer); places = padded []; bus = r .bus }
 
--- The tests. Every card that is there is sound.
-unfoldable pub allSound : List IdState → Bool
-allSound [] = true
-allSound (s ∷ cards) = idSound s && allSound cards
-
--- The ID port is 1x0h, and there are not more than 8 cards.
+-- The tests. The ID port is 1x0h, and there are not more than 8 cards.
 unfoldable pub allowed : Bus → ℕ → Bool
-allowed b port = eqb (port % 16) 0 && eqb (port / 256) 1 && leb (b .count) 8
-
--- The tag is 1 to 7, and the base number not above 31.
-unfoldable pub naming : ℕ → ℕ → Bool
-naming tag base = leb 1 tag && leb tag 7 && leb base 31
-
--- x of port 1x0h
-abbrev pub digitOf : ℕ → ℕ
-digitOf port = port / 16 % 16
+allowed b port = isPort port && leb (b .count) 8
 
 -- Refusal 1 for an unsound state, then 12 for an argument outside; a refused call changes nothing.
 abbrev pub refusing : ℕ → Bus → Outcome

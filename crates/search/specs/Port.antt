@@ -1,11 +1,13 @@
 -- The cards on one ID port, what an access does to them, and a host that does nothing but accesses. A port is its x in 1x0h.
 -- Assumes nothing.
-use Prim.Native.Nat.{ℕ, min}
+use Prim.Native.Nat.{ℕ}
 use mathlib.Core.List.{List, [], _∷_, _++_, map}
 use lib.ListN.{take, drop}
 use Rattle.idport.specs.declared.IdState.{IdState}
-use Rattle.idport.specs.Card.{idWrite, idBit, idAfterRead}
+use Rattle.idport.specs.Card.{idWrite, idAfterRead}
 use Rattle.search.specs.declared.Bus.{Bus}
+-- the bit that the bus carries
+unfoldable pub use Rattle.port_cards.specs.Gathered.{portBit}
 
 -- the cards that are there, and what stands in the places past them
 abbrev pub held : Bus → List IdState
@@ -21,11 +23,6 @@ seated cards b = record { cards = cards ++ rest b; count = b .count }
 -- Each card sees a byte that is written.
 unfoldable pub portWrite : ℕ → ℕ → List IdState → List IdState
 portWrite p x cards = map (λ s. idWrite s p x) cards
-
--- An undriven bus bit reads 1; one driven 0 wins.
-unfoldable pub portBit : ℕ → List IdState → ℕ
-portBit p [] = 1
-portBit p (s ∷ cards) = min (idBit s p) (portBit p cards)
 
 -- A read: each card compares the bit that it drove with the bus's.
 unfoldable pub portRead : ℕ → List IdState → List IdState

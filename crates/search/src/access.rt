@@ -1,11 +1,10 @@
 // One access to the ID port, by which every card there is stepped. A port is its x in 1x0h. The public calls test the cards and the port first.
 ghost use mathlib.Core.Path.{_≡_};
-ghost use Prim.Native.Nat.{_≤_, min};
+ghost use Prim.Native.Nat.{_≤_};
 ghost use Rattle.search.specs.Port.{held, portBit};
 ghost use Rattle.search.specs.Held.{Writes, Reads};
 use super::Bus;
 use idport::id_after_read;
-use idport::id_bit;
 use idport::id_write;
 
 // A byte written, which each card sees.
@@ -24,30 +23,14 @@ pub fn write(mut b: Bus, port: u8, byte: u8) -> Bus
     b
 }
 
-fn least(a: u8, b: u8) -> u8
-    ensures { λ r. ⌜ r ≡ min a b ⌝ }
-{
-    if a < b {
-        return a;
-    }
-    b
-}
-
 // What the bus carries: 1, unless a card drives a 0.
 fn carried(b: Bus, port: u8) -> u8
     requires { ⌜ b .count ≤ 8 ⌝ }
     ensures { λ r. ⌜ r ≡ portBit port (held b) ⌝ }
 {
+    let cards = b.cards;
     let n = b.count;
-    let mut bit: u8 = 1;
-    let mut i: usize = 0;
-    while i < n {
-        let c = b.cards[i];
-        let mine = id_bit(c, port);
-        bit = least(bit, mine);
-        i += 1;
-    }
-    bit
+    port_cards::carried(cards, n, port)
 }
 
 // The bit that a read gave, and the cards after it.

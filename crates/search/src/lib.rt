@@ -43,7 +43,7 @@ pub fn port_write(b: Bus, port: u16, byte: u8) -> AfterWrite
             answer: Wrote::Refused(Refusal::ArgumentOutside),
         };
     }
-    let x = checks::digit(port);
+    let x = port_cards::digit(port);
     let after = access::write(b, x, byte);
     AfterWrite {
         bus: after,
@@ -77,7 +77,7 @@ pub fn port_read(b: Bus, port: u16) -> AfterRead
             answer: Bit::Refused(Refusal::ArgumentOutside),
         };
     }
-    let x = checks::digit(port);
+    let x = port_cards::digit(port);
     let heard = access::read(b, x);
     let after = heard.bus;
     let bit = heard.bit;
@@ -117,7 +117,7 @@ pub fn find_cards(b: Bus, port: u16) -> AfterSearch
             addresses: [0; 7],
         };
     }
-    let x = checks::digit(port);
+    let x = port_cards::digit(port);
     let f = host::search(b, x);
     let after = f.bus;
     let addresses = f.addresses;
@@ -154,14 +154,14 @@ pub fn activate_card(b: Bus, port: u16, tag: u8, base: u8) -> AfterActivation
         };
     }
     let fit = checks::allowed(b, port);
-    let named = checks::names(tag, base);
+    let named = port_cards::names(tag, base);
     if !(fit & named) {
         return AfterActivation {
             bus: b,
             answer: Activation::Refused(Refusal::ArgumentOutside),
         };
     }
-    let x = checks::digit(port);
+    let x = port_cards::digit(port);
     let after = host::activate(b, x, tag, base);
     AfterActivation {
         bus: after,

@@ -9,7 +9,7 @@ use borrow.Author.Tests.{lt-ltb, le-ltb, ltb-false}
 use Rattle.refusal.specs.declared.Refusal.{Refusal}
 use Rattle.refusal.specs.declared.Refusal.the-variants.{NeverOpened, LengthOutside, SixteenUnreported, CardUnfit, NoRoom}
 use Rattle.store.specs.Store.{round4}
-use Rattle.laws.proofs.Tests.{never}
+use Rattle.laws.proofs.Tests.{never, neither}
 use Rattle.regs.specs.declared.Card.{Card}
 use Rattle.regs.specs.Adapter.{Adapter}
 use Rattle.regs.specs.View.{view, Stands}
@@ -19,16 +19,13 @@ use Rattle.talk.specs.Registers.{unfit}
 use Rattle.talk.specs.Talk.{Ran, run, wordsOf, afterWrites}
 use Rattle.talk.proofs.Runs.{writes-law, stands-then, stands-one}
 use Rattle.sending.specs.declared.SendAnswer.the-variants.{Ticket, Refused}
-use Rattle.sending.specs.Send.{Sending, refuses, ticketed, outside, packetWords, sendTalk}
+use Rattle.talk.specs.Packet.{outside, lacksRoom, packetWords}
+use Rattle.sending.specs.Send.{Sending, refuses, ticketed, sendTalk}
 use Rattle.sending.specs.Sends.{Sends}
 
 -- no packet is too long that is not outside
-within : (a b : Bool) → (a || b) ≡ false → b ≡ false
-within true b e = never (sym e)
-within false b e = e
-
 pub not-long : (n : ℕ) → outside n ≡ false → n ≤ 1514
-not-long n e = ltb-false 1514 n (within (ltb n 14) (ltb 1514 n) e)
+not-long n e = ltb-false 1514 n (neither (ltb n 14) (ltb 1514 n) e .1)
 
 -- the two preamble words, then the data
 pub written : {c₁ c₂ c₃ : Card} {ram₁ dir₁ ram₂ dir₂ ram₃ dir₃ : List ℕ} (p : List ℕ) (a : Adapter) (m : ℕ) → m ≡ round4 (length p)
@@ -66,14 +63,19 @@ module _ (d : Driver) (p : List ℕ) (c : Card) (ram dir : List ℕ) where
         unfolding run sendTalk
         unfits w = refused CardUnfit (rw (o, h, le-ltb 15 (d .unreported) u, e₁, w))
 
-        module _ (w : unfit v₁ ≡ false) (v₂ : ℕ) (s₂ : Adapter) (e₂ : access (ReadWord 12) s₁ ≡ step v₂ s₂) (m : ℕ) (q : m ≡ round4 (length p)) where
-          pub full : v₂ < 4 + m → Sends R c ram dir (record { card = c; driver = d; answer = Refused NoRoom }) ram dir
+        module _ (w : unfit v₁ ≡ false) (v₂ : ℕ) (s₂ : Adapter) (e₂ : access (ReadWord 12) s₁ ≡ step v₂ s₂) where
+          -- refused for room, a send has read two words and written none
+          nothing-written : lacksRoom v₂ (length p) ≡ true → R .made ≡ ReadWord 14 ∷ (ReadWord 12 ∷ [])
           unfolding run sendTalk
-          full f = refused NoRoom (rw (o, h, le-ltb 15 (d .unreported) u, e₁, w, e₂, lt-ltb v₂ (4 + round4 (length p)) (rw q at f)))
+          nothing-written f = rw (o, h, le-ltb 15 (d .unreported) u, e₁, w, e₂, f)
 
-          pub taken : 4 + m ≤ v₂ → (e : Card) (ram′ dir′ : List ℕ) → Stands e ram′ dir′ (afterWrites (packetWords p) s₂)
+          pub full : lacksRoom v₂ (length p) ≡ true → Sends R c ram dir (record { card = c; driver = d; answer = Refused NoRoom }) ram dir
+          unfolding run sendTalk
+          full f = refused NoRoom (rw (o, h, le-ltb 15 (d .unreported) u, e₁, w, e₂, f))
+
+          pub taken : lacksRoom v₂ (length p) ≡ false → (e : Card) (ram′ dir′ : List ℕ) → Stands e ram′ dir′ (afterWrites (packetWords p) s₂)
               → Sends R c ram dir (record { card = e; driver = (ticketed d) .driver; answer = Ticket (d .sent) }) ram′ dir′
           unfolding run sendTalk
           taken f e ram′ dir′ last =
-              rw (o, h, le-ltb 15 (d .unreported) u, e₁, w, e₂, le-ltb v₂ (4 + round4 (length p)) (rw q at f), writes-law)
+              rw (o, h, le-ltb 15 (d .unreported) u, e₁, w, e₂, f, writes-law)
               (record { answer = refl; driver = refl; taken = λ _. last; kept = λ n. never n })

@@ -1,15 +1,15 @@
 -- Send, as document 01's section "The driver's accesses" has it. Assumes nothing.
-use mathlib.Core.Bool.{Bool, true, false, cond, not, _||_}
-use mathlib.Core.List.{List, _∷_}
-use Prim.Native.Nat.{ℕ, _+_, _/_}
+use mathlib.Core.Bool.{Bool, true, false, cond, not}
+use mathlib.Core.List.{List}
+use Prim.Native.Nat.{ℕ}
 use lib.ListN.{length}
 use lib.Dec.{ltb}
 use Rattle.refusal.specs.declared.Refusal.{Refusal}
 use Rattle.refusal.specs.declared.Refusal.the-variants.{NeverOpened, LengthOutside, SixteenUnreported, CardUnfit, NoRoom}
-use Rattle.store.specs.Store.{round4}
 use Rattle.talk.specs.declared.Driver.{Driver}
 use Rattle.talk.specs.Registers.{statusPort, txFree, unfit}
-use Rattle.talk.specs.Talk.{Talk, done, readWord, writeWords, wordsOf}
+use Rattle.talk.specs.Talk.{Talk, done, readWord, writeWords}
+use Rattle.talk.specs.Packet.{outside, lacksRoom, packetWords}
 use Rattle.talk.specs.Driver.{sending}
 use Rattle.sending.specs.declared.SendAnswer.{SendAnswer}
 use Rattle.sending.specs.declared.SendAnswer.the-variants.{Ticket, Refused}
@@ -26,14 +26,6 @@ refuses d why = record { answer = Refused why; driver = d }
 abbrev pub ticketed : Driver → Sending
 ticketed d = record { answer = Ticket (d .sent); driver = sending d }
 
--- packet length outside 14 to 1,514
-abbrev pub outside : ℕ → Bool
-outside n = ltb n 14 || ltb 1514 n
-
--- Both preamble words with bit 15, the data padded with zeros to 4.
-abbrev pub packetWords : List ℕ → List ℕ
-packetWords packet = (0x8000 + length packet) ∷ (0 ∷ wordsOf (round4 (length packet) / 2) packet)
-
 -- Refusals 13, 2 and 3; read Status, refusal 5; read TX Free, refusal 4; the words.
 unfoldable pub sendTalk : Driver → List ℕ → Talk Sending
 sendTalk d packet =
@@ -43,7 +35,7 @@ sendTalk d packet =
     (readWord statusPort (λ status.
     cond (unfit status) (done (refuses d CardUnfit))
     (readWord txFree (λ free.
-    cond (ltb free (4 + round4 (length packet))) (done (refuses d NoRoom))
+    cond (lacksRoom free (length packet)) (done (refuses d NoRoom))
     (writeWords (packetWords packet) (done (ticketed d)))))))))
 
 abbrev pub refusing : SendAnswer → Bool

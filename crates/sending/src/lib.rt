@@ -1,11 +1,10 @@
 // Sending: the refusals in their order, the two preamble words and the data.
-ghost use mathlib.Core.Path.{_≡_};
-ghost use Prim.Native.Nat.{_+_, _≤_, _<_};
-ghost use lib.ListN.{length, getD};
-ghost use Rattle.store.specs.Store.{round4};
+ghost use Prim.Native.Nat.{_≤_};
+ghost use lib.ListN.{length};
 ghost use Rattle.regs.specs.View.{view, Sound, Stands};
+ghost use Rattle.talk.specs.Packet.{packetWords};
 ghost use Rattle.talk.specs.Talk.{run, wordsOf, afterWrites};
-ghost use Rattle.sending.specs.Send.{packetWords, sendTalk};
+ghost use Rattle.sending.specs.Send.{sendTalk};
 ghost use Rattle.sending.specs.Sends.{Sends};
 use refusal::Refusal;
 use regs::Card;
@@ -25,16 +24,6 @@ pub struct Sent {
     pub answer: SendAnswer,
 }
 
-// Byte i of a packet, 0 past its end.
-fn byte_of(packet: &[u8], i: usize) -> u16
-    ensures { λ r. ⌜ (r ≡ getD (now (packet .entry)) i 0) × (r < 256) ⌝ }
-{
-    if i < packet.len() {
-        return bits::wide(packet[i]);
-    }
-    0
-}
-
 // The first `words` words of a packet, padded with zeros, to the data port.
 fn write_data(ram: &mut [u8], dir: &mut [u16], c: Card, packet: &[u8], words: usize) -> Card
     requires { ⌜ Sound c (now ram) (now dir) × (words ≤ 1000) ⌝ }
@@ -43,21 +32,13 @@ fn write_data(ram: &mut [u8], dir: &mut [u16], c: Card, packet: &[u8], words: us
     let mut at = c;
     let mut i: usize = 0;
     while i < words {
-        let low = byte_of(packet, 2 * i);
-        let high = byte_of(packet, 2 * i + 1);
+        let low = talk::byte_of(packet, 2 * i);
+        let high = talk::byte_of(packet, 2 * i + 1);
         let next = steps::write_word(ram, dir, at, talk::DATA, low + 256 * high);
         at = next;
         i += 1;
     }
     at
-}
-
-// A length rounded up to 4.
-fn round_up(n: usize) -> usize
-    requires { ⌜ n ≤ 1514 ⌝ }
-    ensures { λ r. ⌜ (r ≡ round4 n) × (r ≤ 1516) ⌝ }
-{
-    (n + 3) / 4 * 4
 }
 
 // A packet: both preamble words with bit 15, and the data padded with zeros.
@@ -68,7 +49,7 @@ fn write_packet(ram: &mut [u8], dir: &mut [u16], c: Card, packet: &[u8]) -> Card
     let n = packet.len();
     let first = steps::write_word(ram, dir, c, talk::DATA, COMPLETION + n as u16);
     let second = steps::write_word(ram, dir, first, talk::DATA, 0);
-    write_data(ram, dir, second, packet, round_up(n) / 2)
+    write_data(ram, dir, second, packet, talk::round_up(n) / 2)
 }
 
 // A packet is written only after every refusal was passed.
@@ -84,7 +65,7 @@ pub fn send(ram: &mut [u8], dir: &mut [u16], c: Card, d: Driver, packet: &[u8]) 
             answer: SendAnswer::Refused(Refusal::NeverOpened),
         };
     }
-    if (n < 14) | (1514 < n) {
+    if talk::is_outside(n) {
         return Sent {
             card: c,
             driver: d,
@@ -108,8 +89,7 @@ pub fn send(ram: &mut [u8], dir: &mut [u16], c: Card, d: Driver, packet: &[u8]) 
         };
     }
     let free = steps::read_word(ram, dir, status.card, talk::TX_FREE);
-    let room = free.value as usize;
-    if room < 4 + round_up(n) {
+    if talk::lacks_room(free.value, n) {
         return Sent {
             card: c,
             driver: d,

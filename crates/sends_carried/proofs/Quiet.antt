@@ -14,11 +14,11 @@ use Rattle.window_write.specs.Write.{coversLow, coversHigh, write, write0, writ
 use Rattle.steps.specs.Access.{Access, ReadWord, ReadByte, WriteWord, WriteByte, Step, effect, access}
 use Rattle.steps.proofs.Ends.{asleep}
 use Rattle.talk.specs.declared.Driver.{Driver}
-use Rattle.talk.specs.Registers.{unfit, txComplete, rxComplete}
+use Rattle.talk.specs.Registers.{unfit, txComplete, rxComplete, bad}
 use Rattle.talk.specs.Talk.{Talk, done, ask, run, readWords}
 use Rattle.opening.specs.Open.{openTalk}
 use Rattle.items.specs.Items.{isError, reportTalk, idleTalk, fetchTalk, wordsIn}
-use Rattle.service.specs.Service.{bad, lookTalk, receiveTalk, dropTalk}
+use Rattle.service.specs.Service.{lookTalk, receiveTalk, dropTalk}
 use Rattle.driver.specs.Calls.{openCall, serviceCall}
 
 -- b has the FIFO of a

@@ -22,7 +22,8 @@ use Rattle.talk.specs.Talk.{run}
 use Rattle.opening.specs.Open.{openTalk}
 use Rattle.sending.specs.declared.SendAnswer.{SendAnswer}
 use Rattle.sending.specs.declared.SendAnswer.the-variants.{Ticket, Refused}
-use Rattle.sending.specs.Send.{outside, refusing}
+use Rattle.talk.specs.Packet.{outside}
+use Rattle.sending.specs.Send.{refusing}
 use Rattle.driver.specs.Calls.{openCall}
 use Rattle.driver.specs.Paper.{sendPaper}
 use Rattle.runs.specs.Run.{Bench, Send, answered, opens, next, said, after}

@@ -9,7 +9,7 @@ use lib.Dec.{ltb, eqb}
 use lib.ListN.{length}
 use Rattle.refusal.specs.declared.Refusal.{Refusal}
 use Rattle.refusal.specs.declared.Refusal.the-variants.{NeverOpened, LengthOutside, SixteenUnreported, CardUnfit, NoRoom}
-use Rattle.laws.proofs.Tests.{both, by-test, never}
+use Rattle.laws.proofs.Tests.{both, neither, by-test, never}
 use Rattle.bits.specs.Bits.{has}
 use Rattle.store.specs.Store.{round4}
 use Rattle.queue.specs.Queue.{Queue, noPart, free, room}
@@ -34,10 +34,12 @@ use Rattle.talk.proofs.Runs.{writes-law}
 use Rattle.talk.specs.Driver.{driverSound, sending}
 use Rattle.sending.specs.declared.SendAnswer.{SendAnswer}
 use Rattle.sending.specs.declared.SendAnswer.the-variants.{Ticket, Refused}
-use Rattle.sending.specs.Send.{Sending, refuses, ticketed, outside, packetWords, sendTalk, refusing}
+use Rattle.talk.specs.Packet.{outside, packetWords}
+use Rattle.sending.specs.Send.{Sending, refuses, ticketed, sendTalk, refusing}
 use Rattle.sending.proofs.Ways.{not-long}
 use Rattle.driver.specs.Calls.{sendCall}
-use Rattle.driver.proofs.Unfit.{unfit-status, or-false, not-false-true}
+use Rattle.talk.proofs.Status.{unfit-status}
+use Rattle.unfit.proofs.Unfit.{not-false-true}
 use Rattle.runs.specs.Run.{Bench, sends, next}
 use Rattle.sends_carried.specs.Packets.{areBytes, stored, Clear, fit, answerTo}
 use Rattle.sends_carried.specs.Carried.{A-send-answers-by-the-table, A-packet-is-stored-whole}
@@ -256,7 +258,7 @@ module _ (p : List ℕ) (b : Bench) (t : refusing (answerTo p b) ≡ false) wher
       let h = not-refused (ltb 15 (b .driver .unreported)) SixteenUnreported _ (g .1) in
       let i = not-refused (not (fit (b .adapter))) CardUnfit _ (h .1) in
       let k = not-refused (ltb (txFree (b .adapter)) (4 + round4 n)) NoRoom _ (i .1) in
-      record { long = ltb-false n 14 (or-false (ltb n 14) (ltb 1514 n) (g .0) .0); short = not-long n (g .0); space = ltb-false (txFree (b .adapter)) (4 + round4 n) (k .0) }
+      record { long = ltb-false n 14 (neither (ltb n 14) (ltb 1514 n) (g .0) .0); short = not-long n (g .0); space = ltb-false (txFree (b .adapter)) (4 + round4 n) (k .0) }
 
   module _ (bytes : areBytes p ≡ true) (clear : Clear b) where
     new : sends p b .adapter .tx .queue ≡ record { failed = false; packets = b .adapter .tx .queue .packets ++ (stored p ∷ []); part = noPart }

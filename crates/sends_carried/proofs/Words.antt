@@ -15,7 +15,7 @@ use Rattle.queue.specs.Whole.{puts, bytesOf}
 use Rattle.queue.proofs.Put.{put-opens}
 use Rattle.queue.proofs.Whole.{written-whole}
 use Rattle.talk.specs.Talk.{wordsOf}
-use Rattle.sending.specs.Send.{packetWords}
+use Rattle.talk.specs.Packet.{packetWords}
 use Rattle.sends_carried.specs.Packets.{areBytes, stored}
 
 words-length : (m : ℕ) (p : List ℕ) → length (wordsOf m p) ≡ m

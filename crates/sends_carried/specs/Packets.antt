@@ -14,7 +14,8 @@ use Rattle.regs.specs.Room.{txFree}
 use Rattle.regs.specs.Status.{failure, shows}
 use Rattle.sending.specs.declared.SendAnswer.{SendAnswer}
 use Rattle.sending.specs.declared.SendAnswer.the-variants.{Ticket, Refused}
-use Rattle.sending.specs.Send.{outside, refusing}
+use Rattle.talk.specs.Packet.{outside}
+use Rattle.sending.specs.Send.{refusing}
 use Rattle.runs.specs.Run.{Bench, Event, Start, Byte, End, Sent, Collided, Open, Send, Service, Said, refused, told, answered, served, sends, next}
 
 -- ---- a packet

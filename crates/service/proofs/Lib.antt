@@ -1,4 +1,3 @@
 -- What the proofs of several functions use.
 pub mod Ways
-pub mod Going
 pub mod Unmoved

@@ -25,7 +25,6 @@ use Rattle.items.specs.Items.{Serving, reportTalk, idleTalk}
 use Rattle.service.specs.Service.{lookTalk, receiveTalk}
 use Rattle.service.specs.Serves.{Unmoved}
 use Rattle.service.proofs.Ways.{looks-report, looks-receive, looks-idle}
-use Rattle.service.proofs.Going.{Going}
 
 -- reading Status leaves a sound card as it was
 reads-still : (c : Card) (ram dir : List ℕ) → Sound c ram dir → (access (ReadWord 14) (view c ram dir)) .adapter ≡ view c ram dir
@@ -60,7 +59,7 @@ unfolding run idleTalk
 idle-fit zero d s e = other e
 idle-fit (suc left) d s e = idle-other e
 
-look-some : (left : ℕ) (d : Driver) (s : Adapter) → (run (lookTalk left d) s) .answer .answer ≡ Refused CardUnfit → 1 ≤ length ((run (lookTalk left d) s) .made)
+pub look-some : (left : ℕ) (d : Driver) (s : Adapter) → (run (lookTalk left d) s) .answer .answer ≡ Refused CardUnfit → 1 ≤ length ((run (lookTalk left d) s) .made)
 unfolding run lookTalk
 look-some zero d s e = other e
 look-some (suc left) d s e = omega arith
@@ -89,20 +88,3 @@ module _ (left : ℕ) (d : Driver) (s : Adapter) (c r : Card) (ram dir ram′ di
 
 pub look-unfit : (R : Ran Serving) (c : Card) (ram dir : List ℕ) → Unmoved R c c ram dir ram dir
 look-unfit R c ram dir = record { same = λ _ _. (refl, (refl, refl)) }
-
--- ---- a service that is done: refused 5 with one access, it never paused
-
-module _ (budget : ℕ) (R : Ran Serving) (left : ℕ) (d : Driver) (s : Adapter) (l₀ f₀ l f : List ℕ) (G : Going budget R left d s l₀ f₀ l f) (within : left ≤ budget)
-    (c₀ c r : Card) (ram₀ dir₀ ram dir ram′ dir′ : List ℕ) (first : left ≡ budget → (c ≡ c₀) × ((ram ≡ ram₀) × (dir ≡ dir₀))) where
-  pub unmoved-done : Unmoved (run (lookTalk left d) s) c r ram dir ram′ dir′ → Unmoved R c₀ r ram₀ dir₀ ram′ dir′
-  unmoved-done u =
-      record {
-        same = λ x n.
-            let y : (run (lookTalk left d) s) .answer .answer ≡ Refused CardUnfit = sym (ap (λ z. z .answer) (G .on .answer)) ∙ x in
-            let k = look-some left d s y in
-            let e : left ≡ budget = omega (arith, G .on .count, k, n) in
-            let m : length ((run (lookTalk left d) s) .made) ≡ 1 = omega (arith, G .on .count, n) in
-            let p = u .same y m in
-            let q = first e in
-            (p .0 ∙ q .0, (p .1 .0 ∙ q .1 .0, p .1 .1 ∙ q .1 .1));
-      }

@@ -9,12 +9,13 @@ use lib.ListN.{length, length-append}
 use lib.Dec.{ltb}
 use borrow.Author.Tests.{ltb-false}
 use Rattle.bits.specs.Bits.{has}
+use Rattle.laws.proofs.Tests.{neither}
 use Rattle.refusal.specs.declared.Refusal.the-variants.{BudgetShort, CardUnfit}
 use Rattle.regs.specs.declared.Card.{Card}
 use Rattle.regs.specs.Adapter.{Adapter}
 use Rattle.steps.specs.Access.{Access, ReadWord, WriteWord, step, access}
 use Rattle.talk.specs.declared.Driver.{Driver}
-use Rattle.talk.specs.Registers.{unfit}
+use Rattle.talk.specs.Registers.{unfit, bad}
 use Rattle.talk.specs.Talk.{Ran, extended, run}
 use Rattle.items.specs.declared.Served.{Served}
 use Rattle.items.specs.declared.Answer.{Answer}
@@ -22,7 +23,7 @@ use Rattle.items.specs.declared.Answer.the-variants.{Idle, Refused}
 use Rattle.items.specs.Items.{Serving, plain, reportTalk, idleTalk, fetchTalk}
 use Rattle.items.specs.Meets.{Ended, Tells}
 use Rattle.items.proofs.Ways.{ran, answered, stops}
-use Rattle.service.specs.Service.{bad, lookTalk, receiveTalk, dropTalk}
+use Rattle.service.specs.Service.{lookTalk, receiveTalk, dropTalk}
 use Rattle.service.specs.Serves.{Meets}
 
 -- a part that has come to its end
@@ -92,6 +93,17 @@ module _ (d : Driver) (s s₁ : Adapter) (v : ℕ) where
   unfolding run lookTalk
   drops zero h e = absurd (h refl)
   drops (suc k) h e = rw (sub-one, e)
+
+-- A card that shows 0 in Status is told unfit.
+told-unfit : (d : Driver) (s s₁ : Adapter) → access (ReadWord 14) s ≡ step 0 s₁ → (run (lookTalk 1 d) s) .answer .answer ≡ Refused CardUnfit
+unfolding run lookTalk
+told-unfit d s s₁ e = rw e
+
+-- When a frame was dropped the pass looks again, and pretends nothing: the card is told unfit then too.
+looks-again : (d : Driver) (s s₁ s₂ : Adapter) (v : ℕ) → access (WriteWord 14 16384) s ≡ step v s₁ → access (ReadWord 14) s₁ ≡ step 0 s₂
+    → (run (dropTalk 2 d) s) .answer .answer ≡ Refused CardUnfit
+unfolding run lookTalk
+looks-again d s s₁ s₂ v e₁ e₂ = rw e₁ (told-unfit d s₁ s₂ e₂)
 
 -- ---- look
 
@@ -166,9 +178,5 @@ module _ (left : ℕ) (d : Driver) (s : Adapter) (l f : List ℕ) where
         (onward (r .paused) left (left - 1) (ReadWord 8 ∷ []) _ r s′ l f l′ f′ (omega arith) (ends _ _ r s′ l f l′ f′ m))
 
 -- a good RX status tells no more than 1,514 bytes
-none-of : (a b : Bool) → (a || b) ≡ false → (a ≡ false) × (b ≡ false)
-none-of true b e = absurd (let z : _≡_ {A = ℕ} 0 1 = cc in omega arith)
-none-of false b e = (refl, e)
-
 pub good-size : (v : ℕ) → bad v ≡ false → v % 2048 ≤ 1514
-good-size v w = ltb-false 1514 (v % 2048) (none-of (ltb (v % 2048) 60) (ltb 1514 (v % 2048)) (none-of (has 16384 v) (ltb (v % 2048) 60 || ltb 1514 (v % 2048)) w .1) .1)
+good-size v w = ltb-false 1514 (v % 2048) (neither (ltb (v % 2048) 60) (ltb 1514 (v % 2048)) (neither (has 16384 v) (ltb (v % 2048) 60 || ltb 1514 (v % 2048)) w .1) .1)

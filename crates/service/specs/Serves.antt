@@ -1,4 +1,4 @@
--- What the contracts say of the run of a service, and of a part of one. Assumes nothing.
+-- What the contracts say of a part of a service. Assumes nothing.
 use mathlib.Core.Path.{_≡_}
 use mathlib.Core.Bool.{Bool, true, false}
 use mathlib.Core.List.{List}
@@ -11,9 +11,7 @@ use Rattle.talk.specs.Talk.{Ran, run}
 use Rattle.items.specs.declared.Served.{Served}
 use Rattle.items.specs.declared.Answer.the-variants.{Refused}
 use Rattle.items.specs.Items.{Serving}
-use Rattle.items.specs.Areas.{inLook, inFrame}
 use Rattle.items.specs.Meets.{Ended}
-use Rattle.service.specs.declared.Serviced.{Serviced}
 use Rattle.service.specs.Service.{lookTalk}
 
 -- with `left` accesses the run R goes on as the run Q with `more`
@@ -32,15 +30,6 @@ pub record Paused (left : ℕ) (R : Ran Serving) (r : Served) (s : Adapter) (l�
 unfoldable pub Meets : Bool → ℕ → Ran Serving → Served → Adapter → List ℕ → List ℕ → List ℕ → List ℕ → Type 0
 Meets false left R r s l₀ f₀ l f = Ended left R r s l₀ f₀ l f
 Meets true left R r s l₀ f₀ l f = Paused left R r s l₀ f₀ l f
-
--- The whole service: answer, driver, count, adapter and both areas are those of the run R.
-pub record Serves (R : Ran Serving) (r : Serviced) (s : Adapter) (l₀ f₀ l f : List ℕ) : Type 0 where
-  pub answer : r .answer ≡ R .answer .answer
-  pub driver : r .driver ≡ R .answer .driver
-  pub used : r .used ≡ length (R .made)
-  pub adapter : s ≡ R .adapter
-  pub look : l ≡ inLook (R .answer .bytes) l₀
-  pub frame : f ≡ inFrame (R .answer .bytes) f₀
 
 -- Refused 5 at its first access, a service leaves card and memory as they came.
 pub record Unmoved (R : Ran Serving) (c r : Card) (ram dir ram′ dir′ : List ℕ) : Type 0 where

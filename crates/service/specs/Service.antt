@@ -1,18 +1,12 @@
 -- Service, as document 01's section "The driver's accesses" has it, by the accesses that are left. Assumes nothing.
-use mathlib.Core.Bool.{Bool, cond, _||_}
+use mathlib.Core.Bool.{cond}
 use Prim.Native.Nat.{ℕ, zero, suc, _%_}
-use lib.Dec.{ltb}
-use Rattle.bits.specs.Bits.{has}
 use Rattle.refusal.specs.declared.Refusal.the-variants.{CardUnfit}
 use Rattle.talk.specs.declared.Driver.{Driver}
-use Rattle.talk.specs.Registers.{statusPort, rxStatus, rxDiscard, unfit, txComplete, rxComplete}
+use Rattle.talk.specs.Registers.{statusPort, rxStatus, rxDiscard, unfit, txComplete, rxComplete, bad}
 use Rattle.talk.specs.Talk.{Talk, done, readWord, order}
 use Rattle.items.specs.declared.Answer.the-variants.{Refused}
 use Rattle.items.specs.Items.{Serving, plain, short, reportTalk, idleTalk, fetchTalk}
-
--- Bit 14 set, or raw count outside 60 to 1,514.
-abbrev pub bad : ℕ → Bool
-bad rx = has 16384 rx || (ltb (rx % 2048) 60 || ltb 1514 (rx % 2048))
 
 unfoldable mutual
   -- Service reads Status, then: TX Complete, else RX Complete, else idle. Budget 0 answers 6 in 5's place.

@@ -1,8 +1,8 @@
 -- From an effect to the settled step, and what an access comes to. Assumes nothing.
-use mathlib.Core.Path.{_≡_, refl, sym, ap, subst, subst⁻¹, _∙_}
+use mathlib.Core.Path.{_≡_, refl, sym, ap, subst⁻¹, _∙_}
 use mathlib.Core.Bool.{Bool, true, false, cond, _&&_}
 use mathlib.Core.List.{List}
-use Prim.Native.Nat.{ℕ, _+_, _*_, _%_, _/_, _-_, _≤_, _<_}
+use Prim.Native.Nat.{ℕ, _%_, _/_, _-_, _≤_, _<_}
 use native.Mathlib.Omega.{arith}
 use borrow.Author.Tests.{ltb-true, ltb-false, eqb-true, eq-eqb, ne-eqb}
 use lib.Dec.{ltb, eqb}
@@ -10,18 +10,13 @@ use Rattle.laws.proofs.Tests.{both, by-test, join, never}
 use Rattle.receive.specs.Reading.{dataWord, afterRead}
 use Rattle.regs.specs.declared.Card.{Card}
 use Rattle.regs.specs.Adapter.{Adapter}
-use Rattle.regs.specs.Update.{withRx, withLines, linesLow}
-use Rattle.regs.specs.Groups.{cardLines}
+use Rattle.regs.specs.Update.{withRx}
 use Rattle.regs.specs.Settle.{settle}
-use Rattle.regs.specs.Sound.{kept, sound}
+use Rattle.regs.specs.Sound.{kept}
 use Rattle.regs.specs.View.{view, Held, Sound, Is, Stands}
-use Rattle.regs.proofs.Groups.{is-lines}
 use Rattle.regs.proofs.Sides.{settle-stays}
-use Rattle.commands.specs.Command.{commanded}
 use Rattle.commands.proofs.Keeps.{Keeping}
 use Rattle.window_read.specs.Read.{window1, wordAt, afterWord}
-use Rattle.window_write.specs.declared.Lanes.{Lanes}
-use Rattle.window_write.specs.Write.{executed, write}
 use Rattle.steps.specs.Access.{Access, ReadWord, ReadByte, Step, step, byteAt, effect, ones, access}
 use Rattle.steps.specs.Gives.{Gives}
 
@@ -120,22 +115,3 @@ pub written-as : (x : Access) (c q : Card) (ram dir ram′ dir′ : List ℕ) �
     → Stands q ram′ dir′ ((access x (view c ram dir)) .adapter)
 unfolding view
 written-as x c q ram dir ram′ dir′ e s = subst⁻¹ (λ (t : Step). Stands q ram′ dir′ (t .adapter)) (awake x (view c ram dir) e) s
-
--- the held byte is no part of soundness
-same-calm : (c : Card) (ram dir : List ℕ) (v : ℕ) → sound (view c ram dir) ≡ true → sound (view (cardLines (linesLow v (c .lines)) c) ram dir) ≡ true
-unfolding view
-same-calm c ram dir v s = s
-
-pub held-sound : (c d : Card) (ram dir : List ℕ) (v : ℕ) → d ≡ cardLines (linesLow v (c .lines)) c → Sound c ram dir → Sound d ram dir
-held-sound c d ram dir v e s = subst⁻¹ (λ (k : Card). Sound k ram dir) e (record { held = is-lines c ram dir (s .held) (linesLow v (c .lines)) .held; calm = same-calm c ram dir v (s .calm) })
-
-pub executes : (c d r : Card) (ram dir ram′ dir′ : List ℕ) (v w : ℕ) → d ≡ cardLines (linesLow 0 (c .lines)) c → w ≡ v * 256 + c .lines .low
-    → Is r ram′ dir′ (commanded w (view d ram dir)) → Is r ram′ dir′ (executed v (view c ram dir))
-unfolding view
-executes c d r ram dir ram′ dir′ v w e f i =
-    subst (λ (n : ℕ). Is r ram′ dir′ (commanded n (withLines (linesLow 0 (c .lines)) (view c ram dir)))) f
-    (subst (λ (k : Card). Is r ram′ dir′ (commanded w (view k ram dir))) e i)
-
--- a byte written, as the word that it is
-pub byte-as : (r : Card) (ram dir : List ℕ) (l : Lanes) (o n m : ℕ) (b : Adapter) → n ≡ m → Is r ram dir (write l o n b) → Is r ram dir (write l o m b)
-byte-as r ram dir l o n m b e i = subst (λ (k : ℕ). Is r ram dir (write l o k b)) e i

@@ -1,4 +1,3 @@
 pub mod Examples
 pub mod Keeps
 pub mod Ends
-pub mod Sides

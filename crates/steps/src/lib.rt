@@ -10,9 +10,6 @@ ghost use Rattle.regs.specs.View.{view, Sound, Stands};
 ghost use Rattle.steps.specs.Access.{access, ReadWord, ReadByte, WriteWord, WriteByte};
 ghost use Rattle.steps.specs.Event.{wireStart, wireByte, wireEnd, success, collisions, seat as seatOf};
 ghost use Rattle.steps.specs.Gives.{Gives};
-
-mod effects; // effects.rt: what each step does before it is settled
-
 use idport::IdState;
 use regs::Card;
 
@@ -157,6 +154,6 @@ pub fn seat(ram: &[u8], dir: &[u16], c: Card, i: IdState) -> Card
     requires { ⌜ Sound c (now ram) (now dir) × (idSound i ≡ true) ⌝ }
     ensures { λ r. ⌜ Stands r (now (ram .entry)) (now (dir .entry)) (seatOf i (view c (now (ram .entry)) (now (dir .entry)))) ⌝ }
 {
-    let next = effects::seat(c, i);
+    let next = seating::seat(c, i);
     regs::settle(ram, dir, next)
 }

@@ -2,3 +2,4 @@
 pub mod Registers
 pub mod Talk
 pub mod Driver
+pub mod Packet

@@ -1,7 +1,7 @@
 -- The registers and commands that the driver names, from the manual. Assumes nothing.
 use mathlib.Core.Bool.{Bool, not, _||_}
-use Prim.Native.Nat.{ℕ, _*_, _/_}
-use lib.Dec.{eqb}
+use Prim.Native.Nat.{ℕ, _*_, _/_, _%_}
+use lib.Dec.{eqb, ltb}
 use Rattle.bits.specs.Bits.{has}
 
 -- ---- registers, by their offsets: those of window 1, then Status and command, in all windows
@@ -61,3 +61,9 @@ txComplete status = has 4 status
 
 abbrev pub rxComplete : ℕ → Bool
 rxComplete status = has 16 status
+
+-- ---- RX Status
+
+-- A damaged frame: bit 14 set, or raw count outside 60 to 1,514.
+abbrev pub bad : ℕ → Bool
+bad rx = has 16384 rx || (ltb (rx % 2048) 60 || ltb 1514 (rx % 2048))

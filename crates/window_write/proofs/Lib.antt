@@ -1,3 +1,4 @@
+pub mod Examples
 pub mod Split
 pub mod Tests
 pub mod Windows

@@ -8,6 +8,7 @@ use native.Mathlib.Omega.{arith}
 use borrow.Author.Tests.{lt-ltb, ltb-false}
 use lib.Dec.{ltb}
 use lib.ListN.{length}
+use Rattle.laws.proofs.Tests.{neither}
 use Rattle.store.specs.Store as store
 use Rattle.receive.specs.Frame.{Frame, Rx}
 use Rattle.receive.proofs.Order.{frames-counted}
@@ -41,10 +42,6 @@ used (f ∷ fs) ps k = rw (lt-ltb 0 (suc (length fs)) (omega arith))
 -- a frame, a packet or a word of one is counted
 abbrev pub counted : Card → Bool
 counted c = (ltb 0 (c .receive .frames) || ltb 0 (c .transmit .fifo .packets)) || ltb 0 (c .transmit .fifo .words)
-
-neither : (a b : Bool) → (a || b) ≡ false → (a ≡ false) × (b ≡ false)
-neither true b e = let z : _≡_ {A = ℕ} 0 1 = cc in absurd (omega arith)
-neither false b e = (refl, e)
 
 none : (n : ℕ) → ltb 0 n ≡ false → n ≡ 0
 none n e = omega (arith, ltb-false 0 n e)

@@ -15,7 +15,7 @@ use Rattle.receive.specs.Frame.{coming, Frame, overran}
 use Rattle.receive.specs.Wire.{fresh, longer, fits, full, takes, ending, ends}
 use Rattle.receive.specs.Sound.{inOrder}
 use Rattle.receive.specs.View.{stateOf, told, rxArea, framesOf, Turns}
-use Rattle.laws.proofs.Tests.{never}
+use Rattle.laws.proofs.Tests.{never, neither}
 use Rattle.receive.proofs.Laws.{overran-word, room-told, room-snoc, map-snoc, lift}
 use Rattle.receive.proofs.Taking.{newest-coming, takes-none, takes-marks, takes-longer}
 
@@ -90,10 +90,6 @@ newest-of size n ram dir S h =
     let e : 0 + n - 1 ≡ n - 1 = omega arith in
     rw e at (last (rxArea size) n ram dir S h)
 
-or-right : (a b : Bool) → (a || b) ≡ false → b ≡ false
-or-right true b h = never (sym h)
-or-right false b h = h
-
 -- ---- a byte is dropped, marks the frame, or is taken: the three ways of the code
 
 module _ (size n b : ℕ) (ram dir : List ℕ) (S : store.Sound (rxArea size) n ram dir) (h : 0 < n) where
@@ -129,7 +125,7 @@ module _ (size n b : ℕ) (ram dir : List ℕ) (S : store.Sound (rxArea size) n 
         let w : ℕ = getD dir (n - 1) 0 in
         let L = newest-of size n ram dir S h in
         let e : used - round4 (w % 2048) + w % 2048 ≡ roomIn (L .others) + w % 2048 = omega arith in
-        rw e (opening size n w ram dir L (leb-false 1792 (w % 2048) (or-right (leb 49152 w) (leb 1792 (w % 2048)) t)) (omega arith))
+        rw e (opening size n w ram dir L (leb-false 1792 (w % 2048) (neither (leb 49152 w) (leb 1792 (w % 2048)) t .1)) (omega arith))
 
 -- ---- the newest frame ends with the flags h
 

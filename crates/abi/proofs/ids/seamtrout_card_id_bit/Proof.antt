@@ -14,7 +14,7 @@ returns-2 : tie.Need-returns-2
 returns-2 c = bit-outside _ _ _ _ (sym (c .before .before .before .is-sound .ensures) ∙ not-false _ (c .before .before .if1 .left)) (sym (c .before .is-port .ensures) ∙ not-true _ (c .if2 .taken))
 
 returns-3 : tie.Need-returns-3
-returns-3 c = bit-told _ _ _ _ _ (sym (c .before .before .before .before .before .is-sound .ensures) ∙ not-false _ (c .before .before .before .before .if1 .left)) (sym (c .before .before .before .is-port .ensures) ∙ not-false _ (c .before .before .if2 .left)) (rw (← c .before .digit .ensures) (c .id-bit .ensures))
+returns-3 c = bit-told _ _ _ _ _ (sym (c .before .before .before .before .is-sound .ensures) ∙ not-false _ (c .before .before .before .if1 .left)) (sym (c .before .before .is-port .ensures) ∙ not-false _ (c .before .if2 .left)) (c .bit .ensures)
 
 pub seamtrout-card-id-bit-spec : {M : Type 1} → statement M
-seamtrout-card-id-bit-spec = tie.close (tie.spec (λ c κs. search needs) returns (λ c κs. search needs) returns-2 (λ c κs. search needs) (λ c κs. search needs) returns-3)
+seamtrout-card-id-bit-spec = tie.close (tie.spec (λ c κs. search needs) returns (λ c κs. search needs) returns-2 (λ c κs. search needs) returns-3)

@@ -1,31 +1,15 @@
--- `abi::ids::seamtrout_card_id_write` meets its contract: each way of its tests is one of the definition.
+-- `abi::ids::seamtrout_card_id_write` meets its contract: the step keeps the ID state sound, and it is seated.
 -- Assumes nothing.
 use borrow.Author.Needs.{needs}
-use borrow.Author.Tests.{not-true, not-false}
-use mathlib.Core.Path.{_≡_, refl, sym, _∙_}
-use mathlib.Core.Bool.{true}
-use lib.ListN.{length}
-use Rattle.regs.specs.View.{Sound, soundCard}
-use Rattle.regs.proofs.Checked.{card-told}
-use Rattle.abi.proofs.Port.{unsound, outside, goes, write-sound}
+use Rattle.abi.proofs.Port.{write-sound}
 use Rattle.abi.proofs.ids.seamtrout_card_id_write.Statement.{statement}
 use Rattle.abi.proofs.ids.seamtrout_card_id_write.Tie as tie
 
-sounds : (c : tie.Start) → length (c .args .ram .now) ≡ 8192 → length (c .args .dir .now) ≡ 1110 → soundCard (c .args .c) (c .args .ram .now) (c .args .dir .now) ≡ true
-    → Sound (c .args .c) (c .args .ram .now) (c .args .dir .now)
-sounds c r d e = card-told (c .args .c) (c .args .ram .now) (c .args .dir .now) r d e
+seated-requires : tie.Need-seated-requires
+seated-requires c κs = write-sound _ _ _ _ (c .written .ensures)
 
 returns : tie.Need-returns
-returns c = unsound _ _ _ _ _ _ (sym (c .before .is-sound .ensures) ∙ not-true _ (c .if1 .taken))
-
-returns-2 : tie.Need-returns-2
-returns-2 c = outside _ _ _ _ _ _ (sym (c .before .before .before .is-sound .ensures) ∙ not-false _ (c .before .before .if1 .left)) (sym (c .before .is-port .ensures) ∙ not-true _ (c .if2 .taken))
-
-seat-requires : tie.Need-seat-requires
-seat-requires c κs = let s = sounds (c .before .before .before .before .before .before .before .before .before .before) (search needs) (search needs) (sym (c .before .before .before .before .before .before .before .is-sound .ensures) ∙ not-false _ (c .before .before .before .before .before .before .if1 .left)) in (s, write-sound _ _ _ _ _ _ _ s (c .before .before .before .digit .ensures) (c .before .before .id-write .ensures))
-
-returns-3 : tie.Need-returns-3
-returns-3 c = goes _ _ _ _ _ _ _ (sym (c .before .before .before .before .before .before .before .before .is-sound .ensures) ∙ not-false _ (c .before .before .before .before .before .before .before .if1 .left)) (sym (c .before .before .before .before .before .before .is-port .ensures) ∙ not-false _ (c .before .before .before .before .before .if2 .left)) (rw (← c .before .before .before .before .digit .ensures, ← c .before .before .before .id-write .ensures) (c .seat .ensures))
+returns c = rw (← c .before .written .ensures) (c .seated .ensures)
 
 pub seamtrout-card-id-write-spec : {M : Type 1} → statement M
-seamtrout-card-id-write-spec = tie.close (tie.spec (λ c κs. search needs) returns (λ c κs. search needs) returns-2 (λ c κs. search needs) (λ c κs. search needs) seat-requires returns-3)
+seamtrout-card-id-write-spec = tie.close (tie.spec (λ c κs. search needs) seated-requires returns)

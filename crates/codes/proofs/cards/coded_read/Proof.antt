@@ -1,0 +1,12 @@
+-- `codes::cards::coded_read` meets its contract: field by field, it is the definition.
+-- Assumes nothing.
+use borrow.Author.Needs.{needs}
+use mathlib.Core.Path.{refl}
+use Rattle.codes.proofs.cards.coded_read.Statement.{statement}
+use Rattle.codes.proofs.cards.coded_read.Tie as tie
+
+returns : tie.Need-returns
+returns c = rw (c .read-code .ensures, c .before .read-value .ensures) refl
+
+pub coded-read-spec : {M : Type 1} → statement M
+coded-read-spec = tie.close (tie.spec (λ c κs. search needs) (λ c κs. search needs) returns)

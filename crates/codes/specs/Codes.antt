@@ -1,0 +1,134 @@
+-- Every answer in numbers: a code is 0 for done, else the paper's number of the refusal; a value that a refused call does not have is 0.
+-- Assumes nothing.
+use Prim.Native.Nat.{ℕ}
+use Rattle.refusal.specs.Number.{numberOf}
+use Rattle.eeprom.specs.declared.Checked.{Checked}
+use Rattle.eeprom.specs.declared.Checked.the-variants as checked
+use Rattle.card.specs.declared.Done.{Done}
+use Rattle.card.specs.declared.Done.the-variants as finished
+use Rattle.card.specs.declared.Read.{Read}
+use Rattle.card.specs.declared.Read.the-variants as read
+use Rattle.card.specs.declared.Told.{Told}
+use Rattle.card.specs.declared.Told.the-variants as told
+use Rattle.card.specs.declared.AfterCall.{AfterCall}
+use Rattle.card.specs.declared.AfterRead.{AfterRead}
+use Rattle.card.specs.declared.AfterSuccess.{AfterSuccess}
+use Rattle.search.specs.declared.Found.{Found}
+use Rattle.search.specs.declared.Activation.{Activation}
+use Rattle.search.specs.declared.AfterSearch.{AfterSearch}
+use Rattle.search.specs.declared.AfterActivation.{AfterActivation}
+use Rattle.opening.specs.declared.OpenAnswer.{OpenAnswer}
+use Rattle.opening.specs.declared.OpenAnswer.the-variants as opening
+use Rattle.opening.specs.declared.Opened.{Opened}
+use Rattle.sending.specs.declared.SendAnswer.{SendAnswer}
+use Rattle.sending.specs.declared.SendAnswer.the-variants as sending
+use Rattle.sending.specs.declared.Sent.{Sent}
+use Rattle.items.specs.declared.Answer.{Answer}
+use Rattle.items.specs.declared.Answer.the-variants as serving
+use Rattle.serving.specs.declared.Serviced.{Serviced}
+use Rattle.codes.specs.declared.cards.CardDone.{CardDone}
+use Rattle.codes.specs.declared.cards.CardRead.{CardRead}
+use Rattle.codes.specs.declared.cards.CardTold.{CardTold}
+use Rattle.codes.specs.declared.ports.BusFound.{BusFound}
+use Rattle.codes.specs.declared.ports.BusDone.{BusDone}
+use Rattle.codes.specs.declared.drivers.DriverDone.{DriverDone}
+use Rattle.codes.specs.declared.drivers.DriverSent.{DriverSent}
+use Rattle.codes.specs.declared.drivers.DriverServed.{DriverServed}
+use Rattle.codes.specs.declared.drivers.Service.{Service}
+use Rattle.codes.specs.declared.images.ImageChecked.{ImageChecked}
+
+-- ---- the card
+
+abbrev pub doneCode : Done → ℕ
+doneCode finished.Done = 0
+doneCode (finished.Refused why) = numberOf why
+
+abbrev pub codedDone : AfterCall → CardDone
+codedDone x = record { card = x .card; code = doneCode (x .answer) }
+
+abbrev pub readCode : Read → ℕ
+readCode (read.Value v) = 0
+readCode (read.Refused why) = numberOf why
+
+abbrev pub readValue : Read → ℕ
+readValue (read.Value v) = v
+readValue (read.Refused why) = 0
+
+abbrev pub codedRead : AfterRead → CardRead
+codedRead x = record { card = x .card; value = readValue (x .answer); code = readCode (x .answer) }
+
+abbrev pub toldCode : Told → ℕ
+toldCode (told.Told n) = 0
+toldCode (told.Refused why) = numberOf why
+
+abbrev pub toldCount : Told → ℕ
+toldCount (told.Told n) = n
+toldCount (told.Refused why) = 0
+
+abbrev pub codedTold : AfterSuccess → CardTold
+codedTold x = record { card = x .card; n = toldCount (x .answer); code = toldCode (x .answer) }
+
+-- ---- several cards on one ID port
+
+abbrev pub foundCode : Found → ℕ
+foundCode (Found.Refused why) = numberOf why
+foundCode (Found.Cards count accesses) = 0
+
+abbrev pub foundCount : Found → ℕ
+foundCount (Found.Refused why) = 0
+foundCount (Found.Cards count accesses) = count
+
+abbrev pub foundAccesses : Found → ℕ
+foundAccesses (Found.Refused why) = 0
+foundAccesses (Found.Cards count accesses) = accesses
+
+abbrev pub codedFound : AfterSearch → BusFound
+codedFound x = record { bus = x .bus; addresses = x .addresses; count = foundCount (x .answer); accesses = foundAccesses (x .answer); code = foundCode (x .answer) }
+
+abbrev pub activatedCode : Activation → ℕ
+activatedCode (Activation.Refused why) = numberOf why
+activatedCode (Activation.Done accesses) = 0
+
+abbrev pub activatedAccesses : Activation → ℕ
+activatedAccesses (Activation.Refused why) = 0
+activatedAccesses (Activation.Done accesses) = accesses
+
+abbrev pub codedActivated : AfterActivation → BusDone
+codedActivated x = record { bus = x .bus; accesses = activatedAccesses (x .answer); code = activatedCode (x .answer) }
+
+-- ---- the driver
+
+abbrev pub openCode : OpenAnswer → ℕ
+openCode opening.Done = 0
+openCode (opening.Refused why) = numberOf why
+
+abbrev pub codedOpened : Opened → DriverDone
+codedOpened x = record { card = x .card; driver = x .driver; code = openCode (x .answer) }
+
+abbrev pub sendCode : SendAnswer → ℕ
+sendCode (sending.Ticket t) = 0
+sendCode (sending.Refused why) = numberOf why
+
+abbrev pub sendTicket : SendAnswer → ℕ
+sendTicket (sending.Ticket t) = t
+sendTicket (sending.Refused why) = 0
+
+abbrev pub codedSent : Sent → DriverSent
+codedSent x = record { card = x .card; driver = x .driver; ticket = sendTicket (x .answer); code = sendCode (x .answer) }
+
+-- A kind: 0 refused, 1 a report, 2 a status alone, 3 a frame, 4 idle.
+abbrev pub serviceTold : Answer → Service
+serviceTold (serving.Reported t s) = record { kind = 1; code = 0; ticket = t; status = s; n = 0 }
+serviceTold (serving.Status s) = record { kind = 2; code = 0; ticket = 0; status = s; n = 0 }
+serviceTold (serving.Frame n) = record { kind = 3; code = 0; ticket = 0; status = 0; n = n }
+serviceTold serving.Idle = record { kind = 4; code = 0; ticket = 0; status = 0; n = 0 }
+serviceTold (serving.Refused why) = record { kind = 0; code = numberOf why; ticket = 0; status = 0; n = 0 }
+
+abbrev pub codedServed : Serviced → DriverServed
+codedServed x = record { card = x .card; driver = x .driver; answer = serviceTold (x .answer); accesses = x .used }
+
+-- ---- the image check
+
+abbrev pub codedCheck : Checked → ImageChecked
+codedCheck (checked.Sound a b c) = record { node0 = a; node1 = b; node2 = c; code = 0 }
+codedCheck (checked.Refused why) = record { node0 = 0; node1 = 0; node2 = 0; code = numberOf why }

@@ -1,0 +1,118 @@
+// The card's answers in numbers.
+ghost use mathlib.Core.Path.{_≡_};
+ghost use Rattle.codes.specs.Codes.{doneCode, readCode, readValue, toldCode, toldCount, codedDone, codedRead, codedTold};
+use card::AfterCall;
+use card::AfterRead;
+use card::AfterSuccess;
+use card::Done;
+use card::Read;
+use card::Told;
+use regs::Card;
+
+// The card after a call, and the code.
+#[repr(C)]
+pub struct CardDone {
+    pub card: Card,
+    pub code: u8,
+}
+
+// The card after a read, the value and the code.
+#[repr(C)]
+pub struct CardRead {
+    pub card: Card,
+    pub value: u16,
+    pub code: u8,
+}
+
+// The card after a success, how many bytes the wire was told, and the code.
+#[repr(C)]
+pub struct CardTold {
+    pub card: Card,
+    pub n: usize,
+    pub code: u8,
+}
+
+fn done_code(a: Done) -> u8
+    ensures { λ r. ⌜ r ≡ doneCode a ⌝ }
+{
+    match a {
+        Done::Done => 0,
+        Done::Refused(why) => refusal::number(why),
+    }
+}
+
+fn read_code(a: Read) -> u8
+    ensures { λ r. ⌜ r ≡ readCode a ⌝ }
+{
+    match a {
+        Read::Value(_) => 0,
+        Read::Refused(why) => refusal::number(why),
+    }
+}
+
+fn read_value(a: Read) -> u16
+    ensures { λ r. ⌜ r ≡ readValue a ⌝ }
+{
+    match a {
+        Read::Value(v) => v,
+        Read::Refused(_) => 0,
+    }
+}
+
+fn told_code(a: Told) -> u8
+    ensures { λ r. ⌜ r ≡ toldCode a ⌝ }
+{
+    match a {
+        Told::Told(_) => 0,
+        Told::Refused(why) => refusal::number(why),
+    }
+}
+
+fn told_count(a: Told) -> usize
+    ensures { λ r. ⌜ r ≡ toldCount a ⌝ }
+{
+    match a {
+        Told::Told(n) => n,
+        Told::Refused(_) => 0,
+    }
+}
+
+pub fn coded_done(x: AfterCall) -> CardDone
+    ensures { λ r. ⌜ r ≡ codedDone x ⌝ }
+{
+    let card = x.card;
+    let answer = x.answer;
+    let code = done_code(answer);
+    CardDone {
+        card: card,
+        code: code,
+    }
+}
+
+pub fn coded_read(x: AfterRead) -> CardRead
+    ensures { λ r. ⌜ r ≡ codedRead x ⌝ }
+{
+    let card = x.card;
+    let answer = x.answer;
+    let value = read_value(answer);
+    let code = read_code(answer);
+    CardRead {
+        card: card,
+        value: value,
+        code: code,
+    }
+}
+
+pub fn coded_told(x: AfterSuccess) -> CardTold
+    ensures { λ r. ⌜ r ≡ codedTold x ⌝ }
+{
+    let card = x.card;
+    let answer = x.answer;
+    let n = told_count(answer);
+    let code = told_code(answer);
+    CardTold {
+        card: card,
+        n: n,
+        code: code,
+    }
+}

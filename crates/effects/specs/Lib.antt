@@ -1,0 +1,2 @@
+-- What the contracts of the effects cite.
+pub mod Effect

@@ -1,0 +1,2 @@
+-- Laws that the proofs of `port_cards` cite.
+pub mod Cards

@@ -1,0 +1,2 @@
+-- What the contracts of `port_cards` cite.
+pub mod Gathered

@@ -1,0 +1,2 @@
+-- What the contract of `seat` cites.
+pub mod Seat

@@ -1,0 +1,3 @@
+-- What the proof of a whole service uses.
+mod Going
+mod Unmoved

@@ -1,0 +1,2 @@
+-- What the contract of a whole service cites.
+pub mod Serving

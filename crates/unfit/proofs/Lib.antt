@@ -1,0 +1,2 @@
+-- Why refusal 5 comes at once.
+pub mod Unfit

@@ -1,0 +1,2 @@
+-- When refusal 5 comes.
+pub mod Unfit

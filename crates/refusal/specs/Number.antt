@@ -2,7 +2,7 @@
 -- Assumes nothing.
 use Prim.Native.Nat.{ℕ}
 use Rattle.refusal.specs.declared.Refusal.{Refusal}
-use Rattle.refusal.specs.declared.Refusal.the-variants.{StateUnsound, LengthOutside, SixteenUnreported, NoRoom, CardUnfit, BudgetShort, AreaShort, MakerWrong, ChecksumWrong, SecondaryWrong, OutOfTurn, ArgumentOutside, NeverOpened}
+use Rattle.refusal.specs.declared.Refusal.the-variants.{StateUnsound, LengthOutside, SixteenUnreported, NoRoom, CardUnfit, BudgetShort, AreaShort, MakerWrong, ChecksumWrong, SecondaryWrong, OutOfTurn, ArgumentOutside, NeverOpened, FieldDamaged, FileEndsEarly, NoSuchCard, NoPlace, ListedTwice}
 
 abbrev pub numberOf : Refusal → ℕ
 numberOf StateUnsound = 1
@@ -18,3 +18,8 @@ numberOf SecondaryWrong = 10
 numberOf OutOfTurn = 11
 numberOf ArgumentOutside = 12
 numberOf NeverOpened = 13
+numberOf FieldDamaged = 15
+numberOf FileEndsEarly = 16
+numberOf NoSuchCard = 17
+numberOf NoPlace = 18
+numberOf ListedTwice = 19

@@ -30,9 +30,19 @@ pub enum Refusal {
     ArgumentOutside,
     // Send or service on a driver never opened.
     NeverOpened,
+    // A field of a catalogue is out of turn or has a wrong length, or the count of its fields is wrong.
+    FieldDamaged,
+    // A catalogue ends inside a field or without the count of its fields.
+    FileEndsEarly,
+    // The catalogue has no such card or version.
+    NoSuchCard,
+    // No room for a card, a version or a number.
+    NoPlace,
+    // An address is listed twice.
+    ListedTwice,
 }
 
-// The paper's number of a refusal, 1 to 13.
+// The paper's number of a refusal.
 pub fn number(why: Refusal) -> u8
     ensures { λ r. ⌜ r ≡ numberOf why ⌝ }
 {
@@ -50,5 +60,10 @@ pub fn number(why: Refusal) -> u8
         Refusal::OutOfTurn => 11,
         Refusal::ArgumentOutside => 12,
         Refusal::NeverOpened => 13,
+        Refusal::FieldDamaged => 15,
+        Refusal::FileEndsEarly => 16,
+        Refusal::NoSuchCard => 17,
+        Refusal::NoPlace => 18,
+        Refusal::ListedTwice => 19,
     }
 }

@@ -1,0 +1,2 @@
+-- Today's archive, moved in and written out.
+pub mod Archive

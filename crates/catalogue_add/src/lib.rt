@@ -1,0 +1,112 @@
+// Adding a version of a card to a catalogue. The changed file is written whole into another lent area, so that the old one
+// stays until the new one is there; a refused call changes no byte.
+mod write;
+
+ghost use mathlib.Core.Path.{_≡_};
+ghost use mathlib.Core.Bool.{false, true};
+ghost use Prim.Native.Nat.{_+_, _<_, _≤_};
+ghost use lib.ListN.{length};
+ghost use Rattle.fields.specs.Field.{fieldsOf};
+ghost use Rattle.catalogue_file.specs.Turns.{addressOf};
+ghost use Rattle.catalogue_file.specs.Reading.{addressesOf, isAmong, read};
+ghost use Rattle.archive.specs.Archive.{addressIn};
+ghost use Rattle.changes.specs.Edit.{onCatalogue, addedTo, added};
+ghost use Rattle.catalogue_put.specs.Put.{answerOf, areaAfter};
+ghost use Rattle.catalogue_places.specs.Places.{cardPlace};
+ghost use Rattle.catalogue_add.specs.Accepted.{Accepted};
+use catalogue_file::Judged;
+use catalogue_lookup::Seek;
+use catalogue_put::Written;
+use eeprom::Checked;
+use eeprom::WordOffset;
+use refusal::Refusal;
+
+// The node address of an image: words 00h to 02h.
+pub fn address_of(image: &[u8]) -> u64
+    ensures { λ r. ⌜ r ≡ addressOf (addressIn (now (image .entry))) ⌝ }
+{
+    let high = eeprom::word_at(image, WordOffset(0)) as u64;
+    let middle = eeprom::word_at(image, WordOffset(1)) as u64;
+    let low = eeprom::word_at(image, WordOffset(2)) as u64;
+    (high * 65536 + middle) * 65536 + low
+}
+
+// A card's first version.
+fn add_card(file: &[u8], cards: usize, fields: usize, image: &[u8], out: &mut [u8]) -> Written
+    requires { ⌜ Accepted (now file) fields × (cards ≡ length (addressesOf (fieldsOf (now file)))) ⌝ }
+    requires { ⌜ isAmong (addressOf (addressIn (now image))) (addressesOf (fieldsOf (now file))) ≡ false ⌝ }
+    requires { ⌜ (length (now image) ≡ 128) × (length (now file) + 145 ≤ length (now out)) ⌝ }
+    ensures { λ r. ⌜ (r ≡ answerOf (onCatalogue (read (now (file .entry))) (addedTo (now (image .entry))))) × (now (out .exit) ≡ areaAfter (onCatalogue (read (now (file .entry))) (addedTo (now (image .entry)))) (now (out .entry))) ⌝ }
+{
+    if (64 <= cards) | (65532 < fields) {
+        return Written::Refused(Refusal::NoPlace);
+    }
+    match eeprom::check(image) {
+        Checked::Refused(why) => Written::Refused(why),
+        Checked::Sound {
+            node0: _,
+            node1: _,
+            node2: _,
+        } => Written::Bytes(write::with_card(file, fields, image, out)),
+    }
+}
+
+// A new version's number.
+fn next_number(last: u16) -> u16
+    requires { ⌜ last < 65535 ⌝ }
+    ensures { λ r. ⌜ r ≡ last + 1 ⌝ }
+{
+    last + 1
+}
+
+// One more version of the card whose fields begin at a place.
+fn add_version(file: &[u8], at: usize, fields: usize, image: &[u8], out: &mut [u8]) -> Written
+    requires { ⌜ Accepted (now file) fields ⌝ }
+    requires { ⌜ isAmong (addressOf (addressIn (now image))) (addressesOf (fieldsOf (now file))) ≡ true ⌝ }
+    requires { ⌜ at ≡ cardPlace (addressOf (addressIn (now image))) (fieldsOf (now file)) ⌝ }
+    requires { ⌜ (length (now image) ≡ 128) × (length (now file) + 145 ≤ length (now out)) ⌝ }
+    ensures { λ r. ⌜ (r ≡ answerOf (onCatalogue (read (now (file .entry))) (addedTo (now (image .entry))))) × (now (out .exit) ≡ areaAfter (onCatalogue (read (now (file .entry))) (addedTo (now (image .entry)))) (now (out .entry))) ⌝ }
+{
+    let versions = catalogue_places::versions(file, at);
+    let last = catalogue_places::last_number(file, at);
+    if (8 <= versions) | ((65535 <= last) | (65533 < fields)) {
+        return Written::Refused(Refusal::NoPlace);
+    }
+    match eeprom::check(image) {
+        Checked::Refused(why) => Written::Refused(why),
+        Checked::Sound {
+            node0: _,
+            node1: _,
+            node2: _,
+        } => {
+            let place = catalogue_places::card_end(file, at);
+            let number = next_number(last);
+            Written::Bytes(write::with_version(file, place, number, fields, image, out))
+        }
+    }
+}
+
+// Adds a version of the image's card: its latest number plus 1, or 1 for a new card.
+pub fn add(file: &[u8], image: &[u8], out: &mut [u8]) -> Written
+    ensures { λ r. ⌜ (r ≡ answerOf (added (length (now (out .entry))) (now (file .entry)) (now (image .entry)) (read (now (file .entry))))) × (now (out .exit) ≡ areaAfter (added (length (now (out .entry))) (now (file .entry)) (now (image .entry)) (read (now (file .entry)))) (now (out .entry))) ⌝ }
+{
+    if out.len() < 145 {
+        return Written::Refused(Refusal::ArgumentOutside);
+    }
+    if out.len() - 145 < file.len() {
+        return Written::Refused(Refusal::ArgumentOutside);
+    }
+    if image.len() != 128 {
+        return Written::Refused(Refusal::LengthOutside);
+    }
+    match catalogue_file::check(file) {
+        Judged::Refused(why) => Written::Refused(why),
+        Judged::Sound { cards, fields } => match catalogue_places::card_place(
+            file,
+            address_of(image),
+        ) {
+            Seek::Missing => add_card(file, cards, fields, image, out),
+            Seek::Behind(at) => add_version(file, at, fields, image, out),
+        },
+    }
+}

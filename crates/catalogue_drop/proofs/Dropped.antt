@@ -1,0 +1,150 @@
+-- What the call answers and leaves, by what was found on the way.
+-- Assumes nothing.
+use Prim.Native.Nat.{ℕ, _+_, _-_, _≤_, _<_}
+use mathlib.Core.Path.{_≡_, refl, sym, ap, ap₂, subst, _∙_}
+use mathlib.Core.Bool.{Bool, true, false, cond}
+use mathlib.Core.List.{List}
+use native.Mathlib.Omega.{arith}
+use borrow.Author.Tests.{lt-ltb, le-ltb}
+use lib.ListN.{length, drop}
+use lib.Dec.{ltb}
+use Rattle.refusal.specs.declared.Refusal.{Refusal}
+use Rattle.refusal.specs.declared.Refusal.the-variants.{ArgumentOutside, NoSuchCard}
+use Rattle.fields.specs.Field.{Field, fieldsOf}
+use Rattle.catalogue_file.specs.declared.Judged.the-variants.{Sound, Refused}
+use Rattle.catalogue_file.specs.Reading.{Reading, catalogue, refused, addressesOf, isAmong, fileOf, read, judged}
+use Rattle.catalogue_file.specs.Cards.{versionsFrom}
+use Rattle.catalogue_laws.specs.RoundTrip.{Bytes}
+use Rattle.catalogue_lookup.specs.declared.Seek.the-variants as seek
+use Rattle.catalogue_lookup.proofs.Accepted.{addresses-read}
+use Rattle.changes.specs.Edit.{Change, bytes, no, orElse, onCatalogue, withoutVersion, droppedFrom, dropped}
+use Rattle.catalogue_places.specs.Places.{cardPlace, fieldPlace, seekIf}
+use Rattle.catalogue_put.specs.declared.Written.{Written}
+use Rattle.catalogue_put.specs.Put.{answerOf, areaAfter}
+use Rattle.catalogue_drop.specs.Around.{around, begins, numberPlace, imagePlace, newFile, Behind}
+use Rattle.catalogue_drop.proofs.Law.{is-behind, is-new}
+
+-- ---- behind the address
+
+as-new : {x y : List ℕ} (area : List ℕ) {after : List ℕ} {r : ℕ} → x ≡ y → (r ≡ length x) × (after ≡ begins x area) → (r ≡ length y) × (after ≡ begins y area)
+as-new area e h = (h .0 ∙ ap length e, h .1 ∙ ap (λ (l : List ℕ). begins l area) e)
+
+pushed : (t : Bool) (f : ℕ → ℕ → List ℕ) (a b c d : ℕ) → f (cond t a b) (cond t c d) ≡ cond t (f a c) (f b d)
+pushed true f a b c d = refl
+pushed false f a b c d = refl
+
+-- The number and the image stand in their order, with room for the count behind them.
+pub record Placed (file : List ℕ) (at number image : ℕ) : Type 0 where
+  pub numbered : at ≤ number
+  pub imaged : number + 5 ≤ image
+  pub ended : image + 136 ≤ length file
+
+module _ (file : List ℕ) (at n : ℕ) {number image : ℕ} (p : number ≡ numberPlace file at) (q : image ≡ number + fieldPlace 3 (fieldsOf (drop number file))) where
+  image-at : image ≡ imagePlace file at
+  image-at = q ∙ ap (λ (k : ℕ). k + fieldPlace 3 (fieldsOf (drop k file))) p
+
+  pub placed : Behind file at n → Placed file at number image
+  placed b =
+      let i : image ≡ imagePlace file at = image-at in
+      let e : imagePlace file at + 136 ≤ length file = b .ended in
+      let m : numberPlace file at + 5 ≤ imagePlace file at = b .imaged in
+      record { numbered = omega arith; imaged = omega arith; ended = omega arith }
+
+  -- The bytes that were left are the new file, if the right ones were.
+  module _ {versions : ℕ} (v : versions ≡ length (versionsFrom 0 (fieldsOf (drop at file)))) where
+    left-with : (t : Bool) {kept left : ℕ} → ltb (length (versionsFrom 0 (fieldsOf (drop at file)))) 2 ≡ t → kept ≡ cond t (at - 9) at → left ≡ cond t (n - 3) (n - 2)
+        → around file kept at number image left ≡ newFile file at n
+    unfolding newFile
+    left-with t {kept} {left} h k l =
+        ap₂ (λ (x y : ℕ). around file x at number image y) k l
+        ∙ ap₂ (λ (x y : ℕ). around file (cond t (at - 9) at) at x y (cond t (n - 3) (n - 2))) p image-at
+        ∙ pushed t (λ (x y : ℕ). around file x at (numberPlace file at) (imagePlace file at) y) (at - 9) at (n - 3) (n - 2)
+        ∙ ap (λ (b : Bool). cond b (around file (at - 9) at (numberPlace file at) (imagePlace file at) (n - 3)) (around file at at (numberPlace file at) (imagePlace file at) (n - 2))) (sym h)
+
+    pub last-goes : versions < 2 → (kept left : ℕ) (area : List ℕ) {after : List ℕ} {r : ℕ}
+        → (r ≡ length (around file kept at number image left)) × (after ≡ begins (around file kept at number image left) area)
+        → kept ≡ at - 9 → left ≡ n - 3 → (r ≡ length (newFile file at n)) × (after ≡ begins (newFile file at n) area)
+    last-goes h kept left area x k l =
+        as-new area (left-with true (lt-ltb (length (versionsFrom 0 (fieldsOf (drop at file)))) 2 (omega arith)) k l) x
+
+    pub one-goes : 2 ≤ versions → (kept left : ℕ) (area : List ℕ) {after : List ℕ} {r : ℕ}
+        → (r ≡ length (around file kept at number image left)) × (after ≡ begins (around file kept at number image left) area)
+        → kept ≡ at → left ≡ n - 2 → (r ≡ length (newFile file at n)) × (after ≡ begins (newFile file at n) area)
+    one-goes h kept left area x k l =
+        as-new area (left-with false (le-ltb (length (versionsFrom 0 (fieldsOf (drop at file)))) 2 (omega arith)) k l) x
+
+-- ---- the whole call
+
+-- What is answered and left, once the change is known.
+pub settle : {d x : Change} {w : Written} (area : List ℕ) {after : List ℕ} → d ≡ x → w ≡ answerOf x → after ≡ areaAfter x area
+    → (w ≡ answerOf d) × (after ≡ areaAfter d area)
+settle area e p q = (p ∙ ap answerOf (sym e), q ∙ ap (λ (y : Change). areaAfter y area) (sym e))
+
+-- A file that was judged sound was read as so many fields.
+record Accepted (r : Reading) (n : ℕ) : Type 0 where
+  fs : List Field
+  are : r ≡ catalogue fs
+  many : n ≡ length fs
+
+accepted : (r : Reading) (c n : ℕ) → Sound c n ≡ judged r → Accepted r n
+accepted (catalogue fs) c n e = record { fs = fs; are = refl; many = cc }
+accepted (refused why) c n e = let z : _≡_ {A = ℕ} 0 1 = cc in absurd (omega arith)
+
+module _ (area : ℕ) (file : List ℕ) (a : ℕ) where
+  pub too-short : area < length file → dropped area file a (read file) ≡ no ArgumentOutside
+  unfolding dropped
+  too-short h = ap (λ (b : Bool). orElse b ArgumentOutside (onCatalogue (read file) (droppedFrom a))) (lt-ltb area (length file) h)
+
+  module _ (fits : length file ≤ area) where
+    judged-so : dropped area file a (read file) ≡ onCatalogue (read file) (droppedFrom a)
+    unfolding dropped
+    judged-so = ap (λ (b : Bool). orElse b ArgumentOutside (onCatalogue (read file) (droppedFrom a))) (le-ltb area (length file) fits)
+
+    no-file-if : (r : Reading) (why : Refusal) → Refused why ≡ judged r → onCatalogue r (droppedFrom a) ≡ no why
+    no-file-if (catalogue fs) why e = let z : _≡_ {A = ℕ} 0 1 = cc in absurd (omega arith)
+    no-file-if (refused other) why e = let q : other ≡ why = cc in ap no q
+
+    pub no-file : {why : Refusal} → Refused why ≡ judged (read file) → dropped area file a (read file) ≡ no why
+    no-file {why} e = judged-so ∙ no-file-if (read file) why e
+
+    module _ {c n : ℕ} (e : Sound c n ≡ judged (read file)) where
+      was : Accepted (read file) n
+      was = accepted (read file) c n e
+
+      found-if : (t : Bool) → isAmong a (addressesOf (fieldsOf file)) ≡ t → dropped area file a (read file) ≡ cond t (bytes (fileOf (withoutVersion a (was .fs)))) (no NoSuchCard)
+      unfolding droppedFrom
+      found-if t m =
+          judged-so
+          ∙ ap (λ (r : Reading). onCatalogue r (droppedFrom a)) (was .are)
+          ∙ ap (λ (b : Bool). cond b (bytes (fileOf (withoutVersion a (was .fs)))) (no NoSuchCard))
+          (ap (isAmong a) (sym (addresses-read file (was .fs) (was .are))) ∙ m)
+
+      missing-if : (t : Bool) (place : ℕ) → seek.Missing ≡ seekIf t place → t ≡ false
+      missing-if true place e = let z : _≡_ {A = ℕ} 0 1 = cc in absurd (omega arith)
+      missing-if false place e = refl
+
+      pub no-card : seek.Missing ≡ seekIf (isAmong a (addressesOf (fieldsOf file))) (cardPlace a (fieldsOf file)) → dropped area file a (read file) ≡ no NoSuchCard
+      no-card s = found-if false (missing-if (isAmong a (addressesOf (fieldsOf file))) (cardPlace a (fieldsOf file)) s)
+
+      behind-if : (t : Bool) (at place : ℕ) → seek.Behind at ≡ seekIf t place → (t ≡ true) × (place ≡ at)
+      behind-if true at place e = (refl, cc)
+      behind-if false at place e = let z : _≡_ {A = ℕ} 0 1 = cc in absurd (omega arith)
+
+      module _ (b : Bytes file) {at : ℕ} (s : seek.Behind at ≡ seekIf (isAmong a (addressesOf (fieldsOf file))) (cardPlace a (fieldsOf file))) where
+        there : (isAmong a (addressesOf (fieldsOf file)) ≡ true) × (cardPlace a (fieldsOf file) ≡ at)
+        there = behind-if (isAmong a (addressesOf (fieldsOf file))) at (cardPlace a (fieldsOf file)) s
+
+        among : isAmong a (addressesOf (was .fs)) ≡ true
+        among = ap (isAmong a) (sym (addresses-read file (was .fs) (was .are))) ∙ there .0
+
+        pub behind-it : Behind file at n
+        behind-it =
+            subst (λ (k : ℕ). Behind file k n) (there .1)
+            (subst (λ (k : ℕ). Behind file (cardPlace a (fieldsOf file)) k) (sym (was .many)) (is-behind a file (was .fs) b (was .are) among))
+
+        pub new-so : dropped area file a (read file) ≡ bytes (newFile file at n)
+        new-so =
+            found-if true (there .0)
+            ∙ ap bytes
+            (sym (is-new a file (was .fs) b (was .are) among)
+            ∙ ap₂ (λ (x y : ℕ). newFile file x y) (there .1) (sym (was .many)))

@@ -1,0 +1,2 @@
+-- What the contracts of `catalogue_drop` cite.
+pub mod Around

@@ -1,0 +1,18 @@
+-- Tests joined by and.
+-- Assumes nothing.
+use mathlib.Core.Path.{_≡_, refl}
+use mathlib.Core.Bool.{Bool, true, false, _&&_, false≢true}
+
+pub and-left : (a b : Bool) → a && b ≡ true → a ≡ true
+and-left true b e = refl
+and-left false b e = e
+
+pub and-right : (a b : Bool) → a && b ≡ true → b ≡ true
+and-right true b e = e
+and-right false b e = absurd (false≢true e)
+
+pub and-no : (a b : Bool) → a ≡ false → a && b ≡ false
+and-no a b e = rw e
+
+pub and-yes : (a b c : Bool) → a ≡ true → b ≡ c → a && b ≡ c
+and-yes a b c e f = rw e f

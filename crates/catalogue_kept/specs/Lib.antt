@@ -1,0 +1,2 @@
+-- What is proved of changed catalogues.
+pub mod Kept

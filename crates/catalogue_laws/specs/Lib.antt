@@ -1,0 +1,2 @@
+-- What is proved of a catalogue's file.
+pub mod RoundTrip

@@ -1,0 +1,4 @@
+-- Laws of the lookups.
+pub mod Versions
+pub mod Accepted
+mod Parts

@@ -1,0 +1,2 @@
+-- What the contracts of `catalogue_lookup` cite.
+pub mod Lookup

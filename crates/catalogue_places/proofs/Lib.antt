@@ -1,0 +1,3 @@
+-- Laws of the places and of the counts.
+mod Passed
+mod Counted

@@ -1,0 +1,2 @@
+-- What the contracts of `catalogue_places` cite.
+pub mod Places

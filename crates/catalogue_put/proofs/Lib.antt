@@ -1,0 +1,2 @@
+-- Laws that this crate's proofs and its callers' cite.
+pub mod Chain

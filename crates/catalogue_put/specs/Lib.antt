@@ -1,0 +1,2 @@
+-- What the contracts of `catalogue_put` cite.
+pub mod Put

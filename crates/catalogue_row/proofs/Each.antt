@@ -1,0 +1,103 @@
+-- The images of an archive, one at a time.
+-- Assumes nothing.
+use Prim.Native.Nat.{ℕ, zero, suc, _+_, _-_, _≤_, _<_}
+use mathlib.Core.Path.{_≡_, refl, sym, ap, ap₂, _∙_}
+use mathlib.Core.Bool.{Bool, true, false, _||_}
+use mathlib.Core.List.{List, [], _∷_}
+use native.Mathlib.Omega.{arith}
+use borrow.Author.Tests.{eq-eqb, ne-eqb}
+use lib.ListN.{take, drop}
+use lib.Seq.{drop-drop}
+use lib.Dec.{eqb}
+use Rattle.refusal.specs.declared.Refusal.{Refusal}
+use Rattle.eeprom.specs.declared.Checked as checked
+use Rattle.eeprom.specs.declared.Checked.{Checked}
+use Rattle.eeprom.specs.Image.{checkOf}
+use Rattle.catalogue_file.specs.Turns.{addressOf}
+use Rattle.catalogue_file.specs.Reading.{isAmong, anyTwice}
+use Rattle.archive.specs.Archive.{addressIn, addressesIn}
+use Rattle.changes.specs.Edit.{imagesWithin}
+use Rattle.catalogue_row.specs.declared.images.Row.{Row}
+use Rattle.catalogue_row.specs.declared.images.Row.the-variants.{Sound, Refused}
+use Rattle.catalogue_row.specs.Row.{andThen, soundness}
+
+abbrev pub here : List ℕ → ℕ → List ℕ
+here row at = take 128 (drop at row)
+
+pub next-image : (row : List ℕ) (at left : ℕ) → 0 < left → imagesWithin left (drop at row) ≡ here row at ∷ imagesWithin (left - 1) (drop (at + 128) row)
+unfolding imagesWithin
+next-image row at zero some = absurd (omega arith)
+next-image row at (suc n) some =
+    let e : n ≡ suc n - 1 = omega arith in
+    ap₂ (λ (m : ℕ) (rest : List ℕ). here row at ∷ imagesWithin m rest) e (drop-drop 128 at row)
+
+pub no-image : (row : List ℕ) (left : ℕ) → left ≤ 0 → imagesWithin left row ≡ []
+unfolding imagesWithin
+no-image row zero none = refl
+no-image row (suc n) none = absurd (omega arith)
+
+or-yes : (a b : Bool) → a ≡ true → true ≡ a || b
+or-yes a b e = rw e
+
+or-no : (a b : Bool) → a ≡ false → b ≡ a || b
+or-no a b e = rw e
+
+-- The part of the archive that is lent to the check.
+pub so-many : (row : List ℕ) (at : ℕ) → take (at + 128 - at) (drop at row) ≡ here row at
+so-many row at = let e : at + 128 - at ≡ 128 = omega arith in ap (λ (n : ℕ). take n (drop at row)) e
+
+-- No image is left.
+module _ (row : List ℕ) (left : ℕ) (none : left ≤ 0) where
+  pub none-listed : (a : ℕ) {whole : Bool} → isAmong a (addressesIn (imagesWithin left row)) ≡ whole → false ≡ whole
+  unfolding addressesIn
+  none-listed a inv = ap (λ (l : List (List ℕ)). isAmong a (addressesIn l)) (sym (no-image row left none)) ∙ inv
+
+  pub none-twice : {whole : Bool} → anyTwice (addressesIn (imagesWithin left row)) ≡ whole → false ≡ whole
+  unfolding addressesIn anyTwice
+  none-twice inv = ap (λ (l : List (List ℕ)). anyTwice (addressesIn l)) (sym (no-image row left none)) ∙ inv
+
+  pub none-unsound : {whole : Row} → soundness (imagesWithin left row) ≡ whole → Sound ≡ whole
+  unfolding soundness
+  none-unsound inv = ap soundness (sym (no-image row left none)) ∙ inv
+
+-- An image is passed.
+module _ (row : List ℕ) (at left : ℕ) (some : 0 < left) where
+  module _ (a x : ℕ) (is : x ≡ addressOf (addressIn (here row at))) {whole : Bool} (inv : isAmong a (addressesIn (imagesWithin left (drop at row))) ≡ whole) where
+    step : eqb x a || isAmong a (addressesIn (imagesWithin (left - 1) (drop (at + 128) row))) ≡ whole
+    unfolding addressesIn
+    step =
+        ap (λ (y : ℕ). eqb y a || isAmong a (addressesIn (imagesWithin (left - 1) (drop (at + 128) row)))) is
+        ∙ ap (λ (l : List (List ℕ)). isAmong a (addressesIn l)) (sym (next-image row at left some))
+        ∙ inv
+
+    pub listed-here : x ≡ a → true ≡ whole
+    listed-here e = or-yes (eqb x a) _ (eq-eqb x a e) ∙ step
+
+    pub listed-later : (x ≡ a → ⊥) → isAmong a (addressesIn (imagesWithin (left - 1) (drop (at + 128) row))) ≡ whole
+    listed-later e = or-no (eqb x a) _ (ne-eqb x a e) ∙ step
+
+  module _ (x : ℕ) (is : x ≡ addressOf (addressIn (here row at))) (t : Bool) (again : t ≡ isAmong x (addressesIn (imagesWithin (left - 1) (drop (at + 128) row))))
+      {whole : Bool} (inv : anyTwice (addressesIn (imagesWithin left (drop at row))) ≡ whole) where
+    twice-step : t || anyTwice (addressesIn (imagesWithin (left - 1) (drop (at + 128) row))) ≡ whole
+    unfolding addressesIn anyTwice
+    twice-step =
+        ap (λ (b : Bool). b || anyTwice (addressesIn (imagesWithin (left - 1) (drop (at + 128) row)))) (again ∙ ap (λ (y : ℕ). isAmong y (addressesIn (imagesWithin (left - 1) (drop (at + 128) row)))) is)
+        ∙ ap (λ (l : List (List ℕ)). anyTwice (addressesIn l)) (sym (next-image row at left some))
+        ∙ inv
+
+    pub twice-here : t ≡ true → true ≡ whole
+    twice-here e = or-yes t _ e ∙ twice-step
+
+    pub twice-later : t ≡ false → anyTwice (addressesIn (imagesWithin (left - 1) (drop (at + 128) row))) ≡ whole
+    twice-later e = or-no t _ e ∙ twice-step
+
+  module _ {whole : Row} (inv : soundness (imagesWithin left (drop at row)) ≡ whole) where
+    sound-step : andThen (checkOf (here row at)) (soundness (imagesWithin (left - 1) (drop (at + 128) row))) ≡ whole
+    unfolding soundness
+    sound-step = ap soundness (sym (next-image row at left some)) ∙ inv
+
+    pub unsound-here : (why : Refusal) → checked.the-variants.Refused why ≡ checkOf (here row at) → Refused why ≡ whole
+    unsound-here why e = ap (λ (k : Checked). andThen k (soundness (imagesWithin (left - 1) (drop (at + 128) row)))) e ∙ sound-step
+
+    pub sound-here : (n0 n1 n2 : ℕ) → checked.the-variants.Sound n0 n1 n2 ≡ checkOf (here row at) → soundness (imagesWithin (left - 1) (drop (at + 128) row)) ≡ whole
+    sound-here n0 n1 n2 e = ap (λ (k : Checked). andThen k (soundness (imagesWithin (left - 1) (drop (at + 128) row)))) e ∙ sound-step

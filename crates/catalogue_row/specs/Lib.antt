@@ -1,0 +1,3 @@
+-- What the contracts of `catalogue_row` cite.
+pub mod Row
+pub mod Back

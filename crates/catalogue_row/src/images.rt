@@ -1,0 +1,87 @@
+// The images of an archive, looked at before anything is written.
+ghost use mathlib.Core.Path.{_≡_};
+ghost use Prim.Native.Nat.{_+_, _*_, _≤_};
+ghost use lib.ListN.{length, take, drop};
+ghost use Rattle.catalogue_file.specs.Turns.{addressOf};
+ghost use Rattle.catalogue_file.specs.Reading.{isAmong, anyTwice};
+ghost use Rattle.archive.specs.Archive.{addressIn, addressesIn};
+ghost use Rattle.changes.specs.Edit.{imagesWithin};
+ghost use Rattle.catalogue_row.specs.Row.{soundness};
+use eeprom::Checked;
+use refusal::Refusal;
+
+// Whether every image of an archive is sound.
+pub enum Row {
+    Sound,
+    // The first unsound image's number, 8 to 10.
+    Refused(Refusal),
+}
+
+// The node address of the image at a place.
+fn address_in(archive: &[u8], at: usize) -> u64
+    ensures { λ r. ⌜ r ≡ addressOf (addressIn (take 128 (drop at (now (archive .entry))))) ⌝ }
+{
+    let node = [
+        fields::value_byte(archive, at, 128, 1),
+        fields::value_byte(archive, at, 128, 0),
+        fields::value_byte(archive, at, 128, 3),
+        fields::value_byte(archive, at, 128, 2),
+        fields::value_byte(archive, at, 128, 5),
+        fields::value_byte(archive, at, 128, 4),
+    ];
+    catalogue_file::search::address_at(&node, 0, 6)
+}
+
+// Whether one of so many images from a place on has the address.
+fn listed(archive: &[u8], from: usize, images: usize, address: u64) -> bool
+    requires { ⌜ from + 128 * images ≤ length (now archive) ⌝ }
+    ensures { λ r. ⌜ r ≡ isAmong address (addressesIn (imagesWithin images (drop from (now (archive .entry))))) ⌝ }
+{
+    let mut at = from;
+    let mut unseen = images;
+    while 0 < unseen {
+        if address_in(archive, at) == address {
+            return true;
+        }
+        at = at + 128;
+        unseen = unseen - 1;
+    }
+    false
+}
+
+// Whether two images have one address.
+pub fn any_twice(archive: &[u8], images: usize) -> bool
+    requires { ⌜ 128 * images ≤ length (now archive) ⌝ }
+    ensures { λ r. ⌜ r ≡ anyTwice (addressesIn (imagesWithin images (now (archive .entry)))) ⌝ }
+{
+    let mut at = 0;
+    let mut left = images;
+    while 0 < left {
+        let next = at + 128;
+        let rest = left - 1;
+        if listed(archive, next, rest, address_in(archive, at)) {
+            return true;
+        }
+        at = next;
+        left = rest;
+    }
+    false
+}
+
+// Whether every image is sound.
+pub fn check_all(archive: &[u8], images: usize) -> Row
+    requires { ⌜ 128 * images ≤ length (now archive) ⌝ }
+    ensures { λ r. ⌜ r ≡ soundness (imagesWithin images (now (archive .entry))) ⌝ }
+{
+    let mut at = 0;
+    let mut untested = images;
+    while 0 < untested {
+        let next = at + 128;
+        if let Checked::Refused(why) = eeprom::check(&archive[at..next]) {
+            return Row::Refused(why);
+        }
+        at = next;
+        untested = untested - 1;
+    }
+    Row::Sound
+}

@@ -1,0 +1,220 @@
+// What the program says, answers on standard output and messages on standard error, and the words that it reads.
+use fields::Found;
+use libc::STDERR_FILENO;
+use libc::STDOUT_FILENO;
+use refusal::Refusal;
+
+// Answers whether it was written.
+pub fn tell(text: &[u8]) -> bool {
+    io::write_all(STDOUT_FILENO, text)
+}
+
+pub fn warn(text: &[u8]) {
+    io::write_all(STDERR_FILENO, text);
+}
+
+// Says so where standard output did not take all.
+pub fn told(whole: bool) {
+    if !whole {
+        os::fail(b"standard output");
+    }
+}
+
+pub fn usage() {
+    warn(b"usage: catalogue list FILE\n");
+    warn(b"       catalogue check FILE\n");
+    warn(b"       catalogue show FILE ADDRESS [VERSION]\n");
+    warn(b"       catalogue add FILE IMAGE\n");
+    warn(b"       catalogue drop FILE ADDRESS\n");
+    warn(b"       catalogue import ARCHIVE FILE\n");
+    warn(b"       catalogue export FILE ARCHIVE\n");
+    warn(b"ADDRESS has twelve hexadecimal digits; VERSION is a number from 0 to 65535.\n");
+}
+
+pub fn larger(path: &[u8], room: usize) {
+    warn(path);
+    warn(b": larger than ");
+    io::print_decimal(STDERR_FILENO, room as u64);
+    warn(b" bytes\n");
+}
+
+pub fn too_long(path: &[u8]) {
+    warn(path);
+    warn(b": the name is too long\n");
+}
+
+pub fn link(path: &[u8]) {
+    warn(path);
+    warn(b": a symbolic link; name the file that it leads to\n");
+}
+
+// What was refused, and its number.
+pub fn refused(why: Refusal) {
+    warn(b"refused ");
+    io::print_decimal(STDERR_FILENO, refusal::number(why) as u64);
+    match why {
+        Refusal::LengthOutside => warn(b": not 128 bytes to an image\n"),
+        Refusal::MakerWrong => warn(b": word 07h of an image is not 6D50h\n"),
+        Refusal::ChecksumWrong => warn(b": word 0Fh of an image is not the checksum\n"),
+        Refusal::SecondaryWrong => warn(b": word 17h of an image is not the secondary checksums\n"),
+        Refusal::ArgumentOutside => warn(b": no room to write the changed file\n"),
+        Refusal::FieldDamaged => warn(b": a field is damaged\n"),
+        Refusal::FileEndsEarly => warn(b": the file ends early\n"),
+        Refusal::NoSuchCard => warn(b": no such card or version\n"),
+        Refusal::NoPlace => warn(b": no room for a card, version or number\n"),
+        Refusal::ListedTwice => warn(b": an address is listed twice\n"),
+        _ => warn(b"\n"),
+    }
+}
+
+pub fn sound(cards: usize, fields: usize) {
+    let mut whole = tell(b"sound: ");
+    whole = io::print_decimal(STDOUT_FILENO, cards as u64) & whole;
+    whole = tell(b" cards, ") & whole;
+    whole = io::print_decimal(STDOUT_FILENO, fields as u64) & whole;
+    whole = tell(b" fields\n") & whole;
+    told(whole);
+}
+
+fn hex_digit(d: u8) -> u8 {
+    if d < 10 {
+        return 48 + d;
+    }
+    55 + d % 16
+}
+
+// Twelve upper-case hexadecimal digits.
+fn hex(address: u64) -> bool {
+    let mut digits = [48u8; 12];
+    let mut left = address;
+    let mut at = 12;
+    while 0 < at {
+        at = at - 1;
+        digits[at] = hex_digit((left % 16) as u8);
+        left = left / 16;
+    }
+    tell(&digits)
+}
+
+// A card to a line: its address, and the numbers of its versions.
+pub fn cards(file: &[u8]) {
+    let mut at = 0;
+    let mut some = false;
+    let mut whole = true;
+    loop {
+        match fields::field_at(file, at) {
+            Found::Cut => {
+                if some {
+                    whole = tell(b"\n") & whole;
+                }
+                told(whole);
+                return;
+            }
+            Found::Whole { tag, start, len } => {
+                if tag == 1 {
+                    if some {
+                        whole = tell(b"\n") & whole;
+                    }
+                    whole = hex(catalogue_file::search::address_at(file, start, len)) & whole;
+                    some = true;
+                }
+                if tag == 2 {
+                    whole = tell(b" ") & whole;
+                    whole = io::print_decimal(
+                        STDOUT_FILENO,
+                        fields::value_number(file, start, len) as u64,
+                    )
+                        & whole;
+                }
+                at = start + len;
+            }
+        }
+    }
+}
+
+pub fn same(a: &[u8], b: &[u8]) -> bool {
+    if a.len() != b.len() {
+        return false;
+    }
+    let mut i = 0;
+    while i < a.len() {
+        if a[i] != b[i] {
+            return false;
+        }
+        i = i + 1;
+    }
+    true
+}
+
+// A digit's value; 255 where it is none.
+fn digit(b: u8) -> u8 {
+    match b {
+        48..=57 => b - 48,
+        65..=70 => b - 55,
+        97..=102 => b - 87,
+        _ => 255,
+    }
+}
+
+// An address read, or none.
+pub struct AddressRead {
+    pub ok: bool,
+    pub value: u64,
+}
+
+// Twelve hexadecimal digits, upper or lower case.
+pub fn address(word: &[u8]) -> AddressRead {
+    if word.len() != 12 {
+        return AddressRead {
+            ok: false,
+            value: 0,
+        };
+    }
+    let mut value: u64 = 0;
+    let mut i = 0;
+    while i < 12 {
+        let d = digit(word[i]);
+        if 16 <= d {
+            return AddressRead {
+                ok: false,
+                value: 0,
+            };
+        }
+        value = value % 17592186044416 * 16 + d as u64;
+        i = i + 1;
+    }
+    AddressRead { ok: true, value }
+}
+
+// A version's number read, or none.
+pub struct VersionRead {
+    pub ok: bool,
+    pub value: u16,
+}
+
+// A number of at most 65,535, in at most five decimal digits.
+pub fn version(word: &[u8]) -> VersionRead {
+    let mut value: u64 = 0;
+    let mut i = 0;
+    while i < word.len() {
+        let d = digit(word[i]);
+        if 10 <= d {
+            return VersionRead {
+                ok: false,
+                value: 0,
+            };
+        }
+        value = value % 100000 * 10 + d as u64;
+        i = i + 1;
+    }
+    if (word.len() == 0) | (5 < word.len()) | (65535 < value) {
+        return VersionRead {
+            ok: false,
+            value: 0,
+        };
+    }
+    VersionRead {
+        ok: true,
+        value: (value % 65536) as u16,
+    }
+}

@@ -1,0 +1,3 @@
+-- The law and worked examples.
+mod Kept
+mod Examples

@@ -1,0 +1,3 @@
+-- Changes of a catalogue, and what is proved of them.
+pub mod Edit
+pub mod Unknown

@@ -1,2 +1,3 @@
--- What the proofs of several functions use.
+-- What the proofs of several functions use, and an example.
 pub mod Ways
+mod Examples

@@ -1,4 +1,4 @@
-// What a driver call is made of: the registers and commands it names, and the driver's state.
+// What a driver call is made of: the registers and commands it names, the driver's state, and the tests of what is read and sent.
 ghost use mathlib.Core.Path.{_≡_};
 ghost use Prim.Native.Nat.{_≤_, _<_};
 ghost use lib.ListN.{getD};

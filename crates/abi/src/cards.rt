@@ -12,7 +12,7 @@ pub extern "C" fn seamtrout_card_power_on(words: &[u16; 64]) -> Card
     ensures { λ r. ⌜ says.PowersOn (now (words .entry)) r ⌝ }
 {
     let w = *words;
-    card::power_on(w)
+    card_code::power_on(w)
 }
 
 // The host reads a word.
@@ -25,7 +25,7 @@ pub extern "C" fn seamtrout_card_read_word(
 ) -> CardRead
     ensures { λ r. ⌜ says.ReadsWord c (now (ram .entry)) (now (dir .entry)) o r ⌝ }
 {
-    let x = card::read_word(ram, dir, c, o);
+    let x = card_code::read_word(ram, dir, c, o);
     codes::cards::coded_read(x)
 }
 
@@ -39,7 +39,7 @@ pub extern "C" fn seamtrout_card_read_byte(
 ) -> CardRead
     ensures { λ r. ⌜ says.ReadsByte c (now (ram .entry)) (now (dir .entry)) o r ⌝ }
 {
-    let x = card::read_byte(ram, dir, c, o);
+    let x = card_code::read_byte(ram, dir, c, o);
     codes::cards::coded_read(x)
 }
 
@@ -54,7 +54,7 @@ pub extern "C" fn seamtrout_card_write_word(
 ) -> CardDone
     ensures { λ r. ⌜ says.WritesWord c (now (ram .entry)) (now (dir .entry)) o v r (now (ram .exit)) (now (dir .exit)) ⌝ }
 {
-    let x = card::write_word(ram, dir, c, o, v);
+    let x = card_code::write_word(ram, dir, c, o, v);
     codes::cards::coded_done(x)
 }
 
@@ -69,7 +69,7 @@ pub extern "C" fn seamtrout_card_write_byte(
 ) -> CardDone
     ensures { λ r. ⌜ says.WritesByte c (now (ram .entry)) (now (dir .entry)) o v r (now (ram .exit)) (now (dir .exit)) ⌝ }
 {
-    let x = card::write_byte(ram, dir, c, o, v);
+    let x = card_code::write_byte(ram, dir, c, o, v);
     codes::cards::coded_done(x)
 }
 
@@ -84,7 +84,7 @@ pub extern "C" fn seamtrout_card_wire_start(
     ensures { λ r. ⌜ says.Starts c (now (ram .entry)) (now (dir .entry)) (now (first .entry)) r (now (ram .exit)) (now (dir .exit)) ⌝ }
 {
     let eight = *first;
-    let x = card::wire_start(ram, dir, c, eight);
+    let x = card_code::wire_start(ram, dir, c, eight);
     codes::cards::coded_done(x)
 }
 
@@ -98,7 +98,7 @@ pub extern "C" fn seamtrout_card_wire_byte(
 ) -> CardDone
     ensures { λ r. ⌜ says.Brings c (now (ram .entry)) (now (dir .entry)) b r (now (ram .exit)) (now (dir .exit)) ⌝ }
 {
-    let x = card::wire_byte(ram, dir, c, b);
+    let x = card_code::wire_byte(ram, dir, c, b);
     codes::cards::coded_done(x)
 }
 
@@ -113,7 +113,7 @@ pub extern "C" fn seamtrout_card_wire_end(
 ) -> CardDone
     ensures { λ r. ⌜ says.Ends c (now (ram .entry)) (now (dir .entry)) check alignment r (now (ram .exit)) (now (dir .exit)) ⌝ }
 {
-    let x = card::wire_end(ram, dir, c, check, alignment);
+    let x = card_code::wire_end(ram, dir, c, check, alignment);
     codes::cards::coded_done(x)
 }
 
@@ -127,7 +127,7 @@ pub extern "C" fn seamtrout_card_sent(
 ) -> CardTold
     ensures { λ r. ⌜ says.Succeeds c (now (ram .entry)) (now (dir .entry)) (now (out .entry)) r (now (ram .exit)) (now (dir .exit)) (now (out .exit)) ⌝ }
 {
-    let x = card::success(ram, dir, c, out);
+    let x = card_code::success(ram, dir, c, out);
     codes::cards::coded_told(x)
 }
 
@@ -140,7 +140,7 @@ pub extern "C" fn seamtrout_card_collided(
 ) -> CardDone
     ensures { λ r. ⌜ says.Collides c (now (ram .entry)) (now (dir .entry)) r (now (ram .exit)) (now (dir .exit)) ⌝ }
 {
-    let x = card::collisions(ram, dir, c);
+    let x = card_code::collisions(ram, dir, c);
     codes::cards::coded_done(x)
 }
 
@@ -154,6 +154,6 @@ pub extern "C" fn seamtrout_card_seat(
 ) -> CardDone
     ensures { λ r. ⌜ says.Seats c (now (ram .entry)) (now (dir .entry)) i r ⌝ }
 {
-    let x = card::seat(ram, dir, c, i);
+    let x = card_code::seat(ram, dir, c, i);
     codes::cards::coded_done(x)
 }

@@ -19,7 +19,7 @@ pub extern "C" fn seamtrout_driver_open(
 ) -> DriverDone
     ensures { λ r. ⌜ says.Opens c (now (ram .entry)) (now (dir .entry)) d w0 w1 w2 r (now (ram .exit)) (now (dir .exit)) ⌝ }
 {
-    let x = driver::open(ram, dir, c, d, w0, w1, w2);
+    let x = driver_code::open(ram, dir, c, d, w0, w1, w2);
     codes::drivers::coded_opened(x)
 }
 
@@ -34,7 +34,7 @@ pub extern "C" fn seamtrout_driver_send(
 ) -> DriverSent
     ensures { λ r. ⌜ says.Sends c (now (ram .entry)) (now (dir .entry)) d (now (packet .entry)) r (now (ram .exit)) (now (dir .exit)) ⌝ }
 {
-    let x = driver::send(ram, dir, c, d, packet);
+    let x = driver_code::send(ram, dir, c, d, packet);
     codes::drivers::coded_sent(x)
 }
 
@@ -51,6 +51,6 @@ pub extern "C" fn seamtrout_driver_service(
 ) -> DriverServed
     ensures { λ r. ⌜ says.Services c (now (ram .entry)) (now (dir .entry)) d budget (now (ahead .entry)) (now (frame .entry)) r (now (ram .exit)) (now (dir .exit)) (now (ahead .exit)) (now (frame .exit)) ⌝ }
 {
-    let x = driver::service(ram, dir, c, d, budget, ahead, frame);
+    let x = driver_code::service(ram, dir, c, d, budget, ahead, frame);
     codes::drivers::coded_served(x)
 }

@@ -19,13 +19,13 @@ fn seated(ram: &[u8; 8192], dir: &[u16; 1110], c: Card, port: u16, i: IdState) -
     requires { ⌜ (idSound (c .id) ≡ true → idSound i ≡ true) ⌝ }
     ensures { λ r. ⌜ says.Seated (says.refusal c (now (ram .entry)) (now (dir .entry)) port) i c (now (ram .entry)) (now (dir .entry)) r ⌝ }
 {
-    if !regs::is_sound(ram, dir, c) {
+    if !regs_code::is_sound(ram, dir, c) {
         return CardDone { card: c, code: 1 };
     }
     if !port_cards::is_port(port) {
         return CardDone { card: c, code: 12 };
     }
-    let card = steps::seat(ram, dir, c, i);
+    let card = steps_code::seat(ram, dir, c, i);
     CardDone {
         card: card,
         code: 0,
@@ -57,7 +57,7 @@ pub extern "C" fn seamtrout_card_id_bit(
 ) -> CardBit
     ensures { λ r. ⌜ r ≡ says.bitOf c (now (ram .entry)) (now (dir .entry)) port ⌝ }
 {
-    if !regs::is_sound(ram, dir, c) {
+    if !regs_code::is_sound(ram, dir, c) {
         return CardBit { bit: 0, code: 1 };
     }
     if !port_cards::is_port(port) {

@@ -9,6 +9,6 @@ use codes::images::ImageChecked;
 pub extern "C" fn seamtrout_image_checked(image: &[u8]) -> ImageChecked
     ensures { λ r. ⌜ r ≡ codedCheck (checkOf (now (image .entry))) ⌝ }
 {
-    let x = eeprom::check(image);
+    let x = eeprom_code::check(image);
     codes::images::coded_check(x)
 }

@@ -9,7 +9,7 @@ use search::Bus;
 pub extern "C" fn seamtrout_bus_search(b: Bus, port: u16) -> BusFound
     ensures { λ r. ⌜ says.Finds b port r ⌝ }
 {
-    let x = search::find_cards(b, port);
+    let x = search_code::find_cards(b, port);
     codes::ports::coded_found(x)
 }
 
@@ -18,6 +18,6 @@ pub extern "C" fn seamtrout_bus_search(b: Bus, port: u16) -> BusFound
 pub extern "C" fn seamtrout_bus_activate(b: Bus, port: u16, tag: u8, base: u8) -> BusDone
     ensures { λ r. ⌜ says.Activates b port tag base r ⌝ }
 {
-    let x = search::activate_card(b, port, tag, base);
+    let x = search_code::activate_card(b, port, tag, base);
     codes::ports::coded_activated(x)
 }

@@ -1,2 +1,3 @@
--- Laws of lines.
+-- Laws of lines, and examples.
 pub mod Spoken
+pub mod Examples

@@ -1,2 +1,3 @@
--- The law.
+-- The law and worked examples.
 pub mod OutAfter
+mod Examples

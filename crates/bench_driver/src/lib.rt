@@ -26,7 +26,7 @@ fn open(
 ) -> Stepped {
     let c = b.card;
     let d = b.driver;
-    let got = driver::open(ram, dir, c, d, w0, w1, w2);
+    let got = driver_code::open(ram, dir, c, d, w0, w1, w2);
     let after = got.card;
     let drive = got.driver;
     let answer = got.answer;
@@ -56,7 +56,7 @@ fn send(
 ) -> Stepped {
     let c = b.card;
     let d = b.driver;
-    let got = driver::send(ram, dir, c, d, packet);
+    let got = driver_code::send(ram, dir, c, d, packet);
     let after = got.card;
     let drive = got.driver;
     let answer = got.answer;
@@ -114,7 +114,7 @@ fn service(
     let mut frame = [0u8; 1514];
     let c = b.card;
     let d = b.driver;
-    let got = driver::service(ram, dir, c, d, budget, &mut ahead, &mut frame);
+    let got = driver_code::service(ram, dir, c, d, budget, &mut ahead, &mut frame);
     let after = got.card;
     let drive = got.driver;
     let answer = got.answer;
@@ -127,15 +127,15 @@ fn service(
         others: b.others,
     };
     let n = frame_bytes(answer);
-    let up = driver::hand_up(&ahead, &frame, n);
-    let len = answers::say(text, service_reply(answer, used), up, [0; 7]);
+    let up = driver_code::hand_up(&ahead, &frame, n);
+    let len = answers_code::say(text, service_reply(answer, used), up, [0; 7]);
     Stepped {
         bench: next,
         len: len,
     }
 }
 
-// What a line asks of the driver; `session` hands over no other kind.
+// What a line asks of the driver; `play` hands over no other kind.
 pub fn act(
     ram: &mut [u8; 8192],
     dir: &mut [u16; 1110],

@@ -28,7 +28,7 @@ fn read_word(
     o: u16,
 ) -> Stepped {
     let c = b.card;
-    let got = card::read_word(ram, dir, c, o);
+    let got = card_code::read_word(ram, dir, c, o);
     let after = got.card;
     let answer = got.answer;
     bench_state::plain(text, bench_state::with_card(b, after), word_reply(answer))
@@ -42,7 +42,7 @@ fn read_byte(
     o: u16,
 ) -> Stepped {
     let c = b.card;
-    let got = card::read_byte(ram, dir, c, o);
+    let got = card_code::read_byte(ram, dir, c, o);
     let after = got.card;
     let answer = got.answer;
     bench_state::plain(text, bench_state::with_card(b, after), byte_reply(answer))
@@ -57,7 +57,7 @@ fn write_word(
     v: u16,
 ) -> Stepped {
     let c = b.card;
-    let got = card::write_word(ram, dir, c, o, v);
+    let got = card_code::write_word(ram, dir, c, o, v);
     let after = got.card;
     let answer = got.answer;
     bench_state::plain(
@@ -76,7 +76,7 @@ fn write_byte(
     v: u16,
 ) -> Stepped {
     let c = b.card;
-    let got = card::write_byte(ram, dir, c, o, (v % 256) as u8);
+    let got = card_code::write_byte(ram, dir, c, o, (v % 256) as u8);
     let after = got.card;
     let answer = got.answer;
     bench_state::plain(
@@ -86,7 +86,7 @@ fn write_byte(
     )
 }
 
-// What a line asks of the host; `session` hands over no other kind.
+// What a line asks of the host; `play` hands over no other kind.
 pub fn act(
     ram: &mut [u8; 8192],
     dir: &mut [u16; 1110],

@@ -33,7 +33,7 @@ fn bus(b: Bench) -> Bus {
 fn settled(s: IdState) -> IdState {
     if s.due {
         let words = s.words;
-        return idport::fresh(words);
+        return idport_code::fresh(words);
     }
     s
 }
@@ -64,7 +64,7 @@ fn back(ram: &mut [u8; 8192], dir: &mut [u16; 1110], b: Bench, after: Bus) -> Be
     let cards = after.cards;
     let first = cards[0];
     let c = b.card;
-    let got = card::seat(ram, dir, c, first);
+    let got = card_code::seat(ram, dir, c, first);
     let own = got.card;
     let joined = rejoined(cards);
     let drive = b.driver;
@@ -84,7 +84,7 @@ fn write(
     port: u16,
     byte: u16,
 ) -> Stepped {
-    let got = search::port_write(bus(b), port, (byte % 256) as u8);
+    let got = search_code::port_write(bus(b), port, (byte % 256) as u8);
     let after = got.bus;
     let answer = got.answer;
     match answer {
@@ -100,7 +100,7 @@ fn read(
     b: Bench,
     port: u16,
 ) -> Stepped {
-    let got = search::port_read(bus(b), port);
+    let got = search_code::port_read(bus(b), port);
     let after = got.bus;
     let answer = got.answer;
     match answer {
@@ -112,7 +112,7 @@ fn read(
 // A reply with addresses.
 fn listed(text: &mut [u8; 4096], b: Bench, reply: Reply, addresses: [u64; 7]) -> Stepped {
     let none = [0u8; 1];
-    let len = answers::say(text, reply, &none, addresses);
+    let len = answers_code::say(text, reply, &none, addresses);
     Stepped { bench: b, len: len }
 }
 
@@ -123,7 +123,7 @@ fn find(
     b: Bench,
     port: u16,
 ) -> Stepped {
-    let got = search::find_cards(bus(b), port);
+    let got = search_code::find_cards(bus(b), port);
     let after = got.bus;
     let answer = got.answer;
     let addresses = got.addresses;
@@ -155,7 +155,7 @@ fn activate(
     tag: u16,
     base: u16,
 ) -> Stepped {
-    let got = search::activate_card(bus(b), port, narrowed(tag), narrowed(base));
+    let got = search_code::activate_card(bus(b), port, narrowed(tag), narrowed(base));
     let after = got.bus;
     let answer = got.answer;
     match answer {
@@ -168,7 +168,7 @@ fn activate(
     }
 }
 
-// What a line asks at the ID port; `session` hands over no other kind.
+// What a line asks at the ID port; `play` hands over no other kind.
 pub fn act(
     ram: &mut [u8; 8192],
     dir: &mut [u16; 1110],

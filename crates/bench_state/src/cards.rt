@@ -37,7 +37,7 @@ pub fn join(text: &mut [u8; 4096], b: Bench, bytes: &[u8]) -> Stepped {
         return super::plain(text, b, Reply::Refused(12));
     }
     let words = words_of(bytes);
-    let fresh = idport::fresh(words);
+    let fresh = idport_code::fresh(words);
     let mut joined = b.joined;
     joined[at] = fresh;
     let own = b.card;

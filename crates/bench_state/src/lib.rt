@@ -34,9 +34,9 @@ fn closed() -> Driver {
 
 // A power-on card of these words, an unopened driver, no other cards.
 pub fn powered(words: [u16; 64]) -> Bench {
-    let none = idport::fresh(words);
+    let none = idport_code::fresh(words);
     let joined = [none; 8];
-    let own = card::power_on(words);
+    let own = card_code::power_on(words);
     Bench {
         card: own,
         driver: closed(),
@@ -48,7 +48,7 @@ pub fn powered(words: [u16; 64]) -> Bench {
 // A reply without bytes.
 pub fn plain(text: &mut [u8; 4096], b: Bench, reply: Reply) -> Stepped {
     let none = [0u8; 1];
-    let len = answers::say(text, reply, &none, [0; 7]);
+    let len = answers_code::say(text, reply, &none, [0; 7]);
     Stepped { bench: b, len: len }
 }
 

@@ -34,7 +34,7 @@ fn start(
         byte_of(bytes, 7),
     ];
     let c = b.card;
-    let got = card::wire_start(ram, dir, c, first);
+    let got = card_code::wire_start(ram, dir, c, first);
     let after = got.card;
     let answer = got.answer;
     bench_state::plain(text, bench_state::with_card(b, after), done_reply(answer))
@@ -62,7 +62,7 @@ fn run(
         return bench_state::plain(text, b, Reply::What);
     }
     while i < n {
-        let got = card::wire_byte(ram, dir, at, bytes[i]);
+        let got = card_code::wire_byte(ram, dir, at, bytes[i]);
         let answer = got.answer;
         let next = got.card;
         at = next;
@@ -83,7 +83,7 @@ fn end(
     alignment: u16,
 ) -> Stepped {
     let c = b.card;
-    let got = card::wire_end(ram, dir, c, check == 1, alignment == 1);
+    let got = card_code::wire_end(ram, dir, c, check == 1, alignment == 1);
     let after = got.card;
     let answer = got.answer;
     bench_state::plain(text, bench_state::with_card(b, after), done_reply(answer))
@@ -105,14 +105,14 @@ fn told_bytes(a: Told) -> usize {
 
 // A reply with the first n bytes of an area.
 fn tell(text: &mut [u8; 4096], reply: Reply, out: &[u8; 1792], n: usize) -> usize {
-    answers::say(text, reply, lines::front(out, n), [0; 7])
+    answers_code::say(text, reply, lines::front(out, n), [0; 7])
 }
 
 // A success: the wire is told the packet's bytes.
 fn sent(ram: &mut [u8; 8192], dir: &mut [u16; 1110], text: &mut [u8; 4096], b: Bench) -> Stepped {
     let mut out = [0u8; 1792];
     let c = b.card;
-    let got = card::success(ram, dir, c, &mut out);
+    let got = card_code::success(ram, dir, c, &mut out);
     let after = got.card;
     let answer = got.answer;
     let n = told_bytes(answer);
@@ -131,13 +131,13 @@ fn collided(
     b: Bench,
 ) -> Stepped {
     let c = b.card;
-    let got = card::collisions(ram, dir, c);
+    let got = card_code::collisions(ram, dir, c);
     let after = got.card;
     let answer = got.answer;
     bench_state::plain(text, bench_state::with_card(b, after), done_reply(answer))
 }
 
-// What a line says that the wire does; `session` hands over no other kind.
+// What a line says that the wire does; `play` hands over no other kind.
 pub fn act(
     ram: &mut [u8; 8192],
     dir: &mut [u16; 1110],

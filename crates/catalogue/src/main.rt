@@ -12,7 +12,7 @@ fn list(path: &[u8]) {
         return;
     }
     let n = got.len;
-    match catalogue_file::check(&room[..n]) {
+    match catalogue_file_code::check(&room[..n]) {
         Judged::Refused(why) => text::refused(why),
         Judged::Sound {
             cards: _,
@@ -28,7 +28,7 @@ fn check(path: &[u8]) {
         return;
     }
     let n = got.len;
-    match catalogue_file::check(&room[..n]) {
+    match catalogue_file_code::check(&room[..n]) {
         Judged::Refused(why) => text::refused(why),
         Judged::Sound { cards, fields } => text::sound(cards, fields),
     }
@@ -39,7 +39,7 @@ fn put(file: &[u8], place: Place) {
     match place {
         Place::Refused(why) => text::refused(why),
         Place::At { start, len } => {
-            text::told(text::tell(catalogue_lookup::part(file, start, len)));
+            text::told(text::tell(catalogue_lookup_code::part(file, start, len)));
         }
     }
 }
@@ -56,7 +56,7 @@ fn show_latest(path: &[u8], address: &[u8]) {
         return;
     }
     let n = got.len;
-    let place = catalogue_lookup::latest(&room[..n], who.value);
+    let place = catalogue_lookup_code::latest(&room[..n], who.value);
     put(&room[..n], place);
 }
 
@@ -73,7 +73,7 @@ fn show_given(path: &[u8], address: &[u8], version: &[u8]) {
         return;
     }
     let n = got.len;
-    let place = catalogue_lookup::given(&room[..n], who.value, which.value);
+    let place = catalogue_lookup_code::given(&room[..n], who.value, which.value);
     put(&room[..n], place);
 }
 
@@ -81,7 +81,7 @@ fn show_given(path: &[u8], address: &[u8], version: &[u8]) {
 fn keep(path: &[u8], out: &[u8], change: Written) {
     match change {
         Written::Refused(why) => text::refused(why),
-        Written::Bytes(n) => files::replace(path, catalogue_lookup::part(out, 0, n)),
+        Written::Bytes(n) => files::replace(path, catalogue_lookup_code::part(out, 0, n)),
     }
 }
 

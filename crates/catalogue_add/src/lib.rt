@@ -25,9 +25,9 @@ use refusal::Refusal;
 pub fn address_of(image: &[u8]) -> u64
     ensures { λ r. ⌜ r ≡ addressOf (addressIn (now (image .entry))) ⌝ }
 {
-    let high = eeprom::word_at(image, WordOffset(0)) as u64;
-    let middle = eeprom::word_at(image, WordOffset(1)) as u64;
-    let low = eeprom::word_at(image, WordOffset(2)) as u64;
+    let high = eeprom_code::word_at(image, WordOffset(0)) as u64;
+    let middle = eeprom_code::word_at(image, WordOffset(1)) as u64;
+    let low = eeprom_code::word_at(image, WordOffset(2)) as u64;
     (high * 65536 + middle) * 65536 + low
 }
 
@@ -41,7 +41,7 @@ fn add_card(file: &[u8], cards: usize, fields: usize, image: &[u8], out: &mut [u
     if (64 <= cards) | (65532 < fields) {
         return Written::Refused(Refusal::NoPlace);
     }
-    match eeprom::check(image) {
+    match eeprom_code::check(image) {
         Checked::Refused(why) => Written::Refused(why),
         Checked::Sound {
             node0: _,
@@ -72,7 +72,7 @@ fn add_version(file: &[u8], at: usize, fields: usize, image: &[u8], out: &mut [u
     if (8 <= versions) | ((65535 <= last) | (65533 < fields)) {
         return Written::Refused(Refusal::NoPlace);
     }
-    match eeprom::check(image) {
+    match eeprom_code::check(image) {
         Checked::Refused(why) => Written::Refused(why),
         Checked::Sound {
             node0: _,
@@ -99,7 +99,7 @@ pub fn add(file: &[u8], image: &[u8], out: &mut [u8]) -> Written
     if image.len() != 128 {
         return Written::Refused(Refusal::LengthOutside);
     }
-    match catalogue_file::check(file) {
+    match catalogue_file_code::check(file) {
         Judged::Refused(why) => Written::Refused(why),
         Judged::Sound { cards, fields } => match catalogue_places::card_place(
             file,

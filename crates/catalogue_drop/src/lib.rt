@@ -18,7 +18,7 @@ pub fn drop_oldest(file: &[u8], address: u64, out: &mut [u8]) -> Written
     if out.len() < file.len() {
         return Written::Refused(Refusal::ArgumentOutside);
     }
-    match catalogue_file::check(file) {
+    match catalogue_file_code::check(file) {
         Judged::Refused(why) => Written::Refused(why),
         Judged::Sound { cards: _, fields } => match catalogue_places::card_place(file, address) {
             Seek::Missing => Written::Refused(Refusal::NoSuchCard),

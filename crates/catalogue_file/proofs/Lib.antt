@@ -6,3 +6,4 @@ pub mod Came
 pub mod Closes
 pub mod Seen
 pub mod Checked
+mod Examples

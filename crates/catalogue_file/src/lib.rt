@@ -1,10 +1,5 @@
 // A catalogue's file: up to 64 cards, each with one to eight numbered versions of its image.
-// Here a file is judged; `specs/Reading.antt` says what a file is read as, and how a catalogue is written.
-pub mod search;
-mod turns;
-
-ghost use mathlib.Core.Path.{_≡_};
-ghost use Rattle.catalogue_file.specs.Reading.{read, judged};
+// Here the structs and definitions; the functions are the crate `catalogue_file_code`.
 use refusal::Refusal;
 
 // What may come next in a file.
@@ -27,22 +22,4 @@ pub enum Judged {
     Sound { cards: usize, fields: usize },
     // Number 15, 16, 18 or 19.
     Refused(Refusal),
-}
-
-// Checks a file of any length.
-pub fn check(file: &[u8]) -> Judged
-    ensures { λ r. ⌜ r ≡ judged (read (now (file .entry))) ⌝ }
-{
-    match turns::walk(file) {
-        Judged::Refused(why) => Judged::Refused(why),
-        Judged::Sound { cards, fields } => {
-            if 64 < cards {
-                return Judged::Refused(Refusal::NoPlace);
-            }
-            if search::twice(file) {
-                return Judged::Refused(Refusal::ListedTwice);
-            }
-            Judged::Sound { cards, fields }
-        }
-    }
 }

@@ -17,7 +17,7 @@ fn main() {
     // A catalogue of 64 cards with 8 versions each has 70,213 bytes.
     let mut room = [0u8; 131072];
     let n = io::read_full(STDIN_FILENO, &mut room);
-    match catalogue_file::check(&room[..n]) {
+    match catalogue_file_code::check(&room[..n]) {
         Judged::Sound {
             cards: _,
             fields: _,

@@ -3,5 +3,5 @@ mod Told
 mod Parts
 mod Versions
 mod Drops
-mod Accepted
-mod Files
+pub mod Accepted
+pub mod Files

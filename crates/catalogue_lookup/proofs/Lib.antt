@@ -1,4 +1,5 @@
--- Laws of the lookups.
+-- Laws of the lookups, and worked examples.
 pub mod Versions
 pub mod Accepted
-mod Parts
+pub mod Parts
+mod Examples

@@ -24,7 +24,7 @@ pub fn card_place(file: &[u8], address: u64) -> Seek
             }
             Found::Whole { tag, start, len } => {
                 let next = start + len;
-                if catalogue_file::search::is_address(file, tag, start, len, address) {
+                if catalogue_file_code::search::is_address(file, tag, start, len, address) {
                     return Seek::Behind(next);
                 }
                 at = next;

@@ -29,7 +29,7 @@ fn address_in(archive: &[u8], at: usize) -> u64
         fields::value_byte(archive, at, 128, 5),
         fields::value_byte(archive, at, 128, 4),
     ];
-    catalogue_file::search::address_at(&node, 0, 6)
+    catalogue_file_code::search::address_at(&node, 0, 6)
 }
 
 // Whether one of so many images from a place on has the address.
@@ -77,7 +77,7 @@ pub fn check_all(archive: &[u8], images: usize) -> Row
     let mut untested = images;
     while 0 < untested {
         let next = at + 128;
-        if let Checked::Refused(why) = eeprom::check(&archive[at..next]) {
+        if let Checked::Refused(why) = eeprom_code::check(&archive[at..next]) {
             return Row::Refused(why);
         }
         at = next;

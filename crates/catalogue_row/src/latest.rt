@@ -18,10 +18,10 @@ fn passed(file: &[u8], tag: u8, next: usize, out: &mut [u8], to: usize) -> usize
     if tag != 1 {
         return to;
     }
-    match catalogue_lookup::walk::newest(file, next) {
+    match catalogue_lookup_code::walk::newest(file, next) {
         Place::Refused(_) => to,
         Place::At { start, len } => {
-            let image = catalogue_lookup::part(file, start, len);
+            let image = catalogue_lookup_code::part(file, start, len);
             catalogue_put::bytes(out, to, image)
         }
     }

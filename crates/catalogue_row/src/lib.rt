@@ -47,7 +47,7 @@ pub fn export(file: &[u8], out: &mut [u8]) -> Written
     if out.len() < 8192 {
         return Written::Refused(Refusal::ArgumentOutside);
     }
-    match catalogue_file::check(file) {
+    match catalogue_file_code::check(file) {
         Judged::Refused(why) => Written::Refused(why),
         Judged::Sound {
             cards: _,

@@ -115,7 +115,7 @@ pub fn cards(file: &[u8]) {
                     if some {
                         whole = tell(b"\n") & whole;
                     }
-                    whole = hex(catalogue_file::search::address_at(file, start, len)) & whole;
+                    whole = hex(catalogue_file_code::search::address_at(file, start, len)) & whole;
                     some = true;
                 }
                 if tag == 2 {

@@ -1,12 +1,18 @@
--- Changes of small catalogues, by computing; short images stand in.
+-- Changes of small catalogues, by computing; short images stand in where none is tested.
 -- Assumes nothing.
-use Prim.Native.Nat.{ℕ}
+use Prim.Native.Nat.{ℕ, zero, suc, _+_}
 use mathlib.Core.Path.{_≡_, refl}
 use mathlib.Core.List.{List, [], _∷_, _++_}
-use Rattle.fields.specs.Field.{Field, field}
+use lib.ListN.{length, replicate}
+use Rattle.refusal.specs.declared.Refusal.{Refusal}
+use Rattle.refusal.specs.declared.Refusal.the-variants.{ArgumentOutside, ChecksumWrong, NoSuchCard, NoPlace, ListedTwice}
+use Rattle.eeprom.specs.Image.{checkOf, wordAt, checksumOf, secondaryOf, xorOf, bothBytes}
+use Rattle.fields.specs.Field.{Field, field, bytesOf}
 use Rattle.catalogue_file.specs.Turns.{addressOf}
-use Rattle.catalogue_file.specs.Cards.{versionsFrom, versionsAt}
-use Rattle.changes.specs.Edit.{versionFields, atCardsEnd, withVersion, latestNumber, withoutImage, withoutOldest, withoutVersion}
+use Rattle.catalogue_file.specs.Reading.{catalogue, fileOf, addressesOf, anyTwice}
+use Rattle.catalogue_file.specs.Cards.{versionsFrom, versionsAt, cardsOf}
+use Rattle.archive.specs.Archive.{addressesIn, movedIn, rowOf, imagesOf}
+use Rattle.changes.specs.Edit.{Change, bytes, no, versionFields, atCardsEnd, withVersion, latestNumber, withoutImage, withoutOldest, withoutVersion, addedTo, added, droppedFrom, imagesIn, imagesWithin, allSound, imported, exported}
 
 -- Two cards, with an unknown field behind the first one's image.
 one : List ℕ
@@ -35,8 +41,120 @@ card-gone : withoutVersion 1 cards ≡ field 99 (5 ∷ []) ∷ field 1 two ∷ f
 unfolding withoutVersion withoutOldest withoutImage versionsFrom cards one two addressOf
 card-gone = refl
 
+-- Unknown fields before a number and between it and its image stay too.
+unknown-kept : withoutOldest (field 98 (4 ∷ []) ∷ field 2 (7 ∷ 0 ∷ []) ∷ field 99 (5 ∷ []) ∷ field 3 (70 ∷ []) ∷ [])
+    ≡ field 98 (4 ∷ []) ∷ field 99 (5 ∷ []) ∷ []
+unfolding withoutOldest withoutImage
+unknown-kept = refl
+
 -- Of two versions the oldest goes, and the card stays.
 oldest-gone : withoutVersion 1 (withVersion 1 (versionFields 8 (80 ∷ [])) cards)
     ≡ field 1 one ∷ field 99 (5 ∷ []) ∷ field 2 (8 ∷ 0 ∷ []) ∷ field 3 (80 ∷ []) ∷ field 1 two ∷ field 2 (1 ∷ 0 ∷ []) ∷ field 3 (10 ∷ []) ∷ []
 unfolding withoutVersion withoutOldest withoutImage versionsFrom withVersion atCardsEnd cards one two addressOf
 oldest-gone = refl
+
+-- ---- the calls, with their refusals
+
+-- A sound image whose address ends in a; its word 0Fh has the high byte sum.
+imageOf : ℕ → ℕ → List ℕ
+imageOf a sum = 0 ∷ 0 ∷ 0 ∷ 0 ∷ a ∷ 0 ∷ (replicate 8 0 ++ (0x50 ∷ 0x6D ∷ (replicate 15 0 ++ (sum ∷ replicate 96 0))))
+
+imageOne : List ℕ
+unfolding imageOf
+imageOne = imageOf 1 0x3C
+
+imageTwo : List ℕ
+unfolding imageOf
+imageTwo = imageOf 2 0x3F
+
+-- Cards so many, with addresses from 1 on; versions so many, of the card at 1. Their images are short.
+cardsUpTo : ℕ → List Field
+cardsUpTo zero = []
+cardsUpTo (suc n) = field 1 (0 ∷ 0 ∷ 0 ∷ 0 ∷ 0 ∷ suc n ∷ []) ∷ field 2 (1 ∷ 0 ∷ []) ∷ field 3 [] ∷ cardsUpTo n
+
+versionsUpFrom : ℕ → ℕ → List Field
+versionsUpFrom n zero = []
+versionsUpFrom n (suc more) = field 2 (n ∷ 0 ∷ []) ∷ field 3 [] ∷ versionsUpFrom (n + 1) more
+
+-- How many bytes a change has, or the refusal.
+data Size : Type 0 where
+  long : ℕ → Size
+  why : Refusal → Size
+
+size : Change → Size
+size (bytes b) = long (length b)
+size (no r) = why r
+
+-- A 64th card is added, a 65th has no place.
+card-64 : size (addedTo (imageOf 64 0x7D) (cardsUpTo 63)) ≡ long 1221
+unfolding size addedTo addressesOf addressOf versionsAt versionsFrom latestNumber withVersion atCardsEnd fileOf bytesOf checkOf wordAt checksumOf secondaryOf xorOf bothBytes imageOf cardsUpTo
+card-64 = refl
+
+card-65 : size (addedTo (imageOf 65 0x7C) (cardsUpTo 64)) ≡ why NoPlace
+unfolding size addedTo addressesOf addressOf versionsAt versionsFrom latestNumber withVersion atCardsEnd fileOf bytesOf checkOf wordAt checksumOf secondaryOf xorOf bothBytes imageOf cardsUpTo
+card-65 = refl
+
+-- An eighth version is added, a ninth has no place.
+version-8 : size (addedTo imageOne (field 1 one ∷ versionsUpFrom 1 7)) ≡ long 206
+unfolding size addedTo addressesOf addressOf versionsAt versionsFrom latestNumber withVersion atCardsEnd fileOf bytesOf checkOf wordAt checksumOf secondaryOf xorOf bothBytes imageOne imageOf versionsUpFrom one
+version-8 = refl
+
+version-9 : size (addedTo imageOne (field 1 one ∷ versionsUpFrom 1 8)) ≡ why NoPlace
+unfolding size addedTo addressesOf addressOf versionsAt versionsFrom latestNumber withVersion atCardsEnd fileOf bytesOf checkOf wordAt checksumOf secondaryOf xorOf bothBytes imageOne imageOf versionsUpFrom one
+version-9 = refl
+
+-- The number 7 is followed by 8.
+number-8 : addedTo imageOne (field 1 one ∷ field 2 (7 ∷ 0 ∷ []) ∷ field 3 [] ∷ [])
+    ≡ bytes (fileOf (field 1 one ∷ field 2 (7 ∷ 0 ∷ []) ∷ field 3 [] ∷ field 2 (8 ∷ 0 ∷ []) ∷ field 3 imageOne ∷ []))
+unfolding addedTo addressesOf addressOf versionsAt versionsFrom latestNumber withVersion atCardsEnd fileOf bytesOf checkOf wordAt checksumOf secondaryOf xorOf bothBytes imageOne imageOf one
+number-8 = refl
+
+-- A first version takes 145 bytes more than the file, here the 5 of the count.
+area-of-150 : size (added 150 (fileOf []) imageOne (catalogue [])) ≡ long 150
+unfolding size added addedTo addressesOf addressOf versionsAt versionsFrom latestNumber withVersion atCardsEnd fileOf bytesOf checkOf wordAt checksumOf secondaryOf xorOf bothBytes imageOne imageOf
+area-of-150 = refl
+
+area-of-149 : size (added 149 (fileOf []) imageOne (catalogue [])) ≡ why ArgumentOutside
+unfolding size added addedTo addressesOf addressOf versionsAt versionsFrom latestNumber withVersion atCardsEnd fileOf bytesOf checkOf wordAt checksumOf secondaryOf xorOf bothBytes imageOne imageOf
+area-of-149 = refl
+
+-- The file without card 1: four fields are left, and counted. A card that is not there is not dropped.
+card-1-dropped : droppedFrom 1 cards
+    ≡ bytes (99 ∷ 1 ∷ 0 ∷ 5 ∷ 1 ∷ 6 ∷ 0 ∷ 0 ∷ 0 ∷ 0 ∷ 0 ∷ 0 ∷ 2 ∷ 2 ∷ 2 ∷ 0 ∷ 1 ∷ 0 ∷ 3 ∷ 1 ∷ 0 ∷ 10 ∷ 4 ∷ 2 ∷ 0 ∷ 4 ∷ 0 ∷ [])
+unfolding droppedFrom addressesOf withoutVersion withoutOldest withoutImage versionsFrom fileOf bytesOf cards one two addressOf
+card-1-dropped = refl
+
+card-3-dropped : droppedFrom 3 cards ≡ no NoSuchCard
+unfolding droppedFrom addressesOf withoutVersion withoutOldest withoutImage versionsFrom fileOf bytesOf cards one two addressOf
+card-3-dropped = refl
+
+-- An archive takes 145 bytes to an image and 5 for the count.
+import-150 : size (imported 150 imageOne) ≡ long 150
+unfolding size imported imagesIn imagesWithin allSound anyTwice addressesIn movedIn addressOf fileOf bytesOf checkOf wordAt checksumOf secondaryOf xorOf bothBytes imageOne imageOf
+import-150 = refl
+
+import-149 : size (imported 149 imageOne) ≡ why ArgumentOutside
+unfolding size imported imagesIn imagesWithin allSound anyTwice addressesIn movedIn addressOf fileOf bytesOf checkOf wordAt checksumOf secondaryOf xorOf bothBytes imageOne imageOf
+import-149 = refl
+
+-- The last image has the address of the first; the last image is unsound; 65 images.
+last-twice : size (imported 440 (imageOne ++ (imageTwo ++ imageOne))) ≡ why ListedTwice
+unfolding size imported imagesIn imagesWithin allSound anyTwice addressesIn movedIn addressOf fileOf bytesOf checkOf wordAt checksumOf secondaryOf xorOf bothBytes imageOne imageTwo imageOf
+last-twice = refl
+
+last-unsound : size (imported 295 (imageOne ++ imageOf 2 0x3E)) ≡ why ChecksumWrong
+unfolding size imported imagesIn imagesWithin allSound anyTwice addressesIn movedIn addressOf fileOf bytesOf checkOf wordAt checksumOf secondaryOf xorOf bothBytes imageOne imageOf
+last-unsound = refl
+
+images-65 : imported 9430 (replicate 8320 0) ≡ no NoPlace
+unfolding imported
+images-65 = refl
+
+-- An export asks for 8,192 bytes, even for no card.
+export-8192 : size (exported 8192 (catalogue [])) ≡ long 0
+unfolding size exported rowOf imagesOf cardsOf
+export-8192 = refl
+
+export-8191 : size (exported 8191 (catalogue [])) ≡ why ArgumentOutside
+unfolding size exported rowOf imagesOf cardsOf
+export-8191 = refl

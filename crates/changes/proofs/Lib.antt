@@ -1,3 +1,3 @@
 -- The law and worked examples.
-mod Kept
+pub mod Kept
 mod Examples

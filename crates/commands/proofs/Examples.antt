@@ -2,10 +2,12 @@
 use mathlib.Core.Path.{_≡_, refl}
 use mathlib.Core.Bool.{true, false}
 use mathlib.Core.List.{[]}
+use Rattle.queue.specs.Queue.{noPart}
 use Rattle.transmit.specs.Tx as tx
 use Rattle.regs.specs.Adapter.{Adapter}
+use Rattle.regs.specs.Update.{withTx}
 use Rattle.regs.specs.Power.{powerOn}
-use Rattle.commands.specs.Command.{rxReset, mask, act, command, commanded}
+use Rattle.commands.specs.Command.{rxReset, txReset, mask, act, command, commanded}
 
 -- At power-on window 0 is selected: RX Enable does nothing, Select Window acts.
 not-enabled : commanded 0x2000 (powerOn [] 0) .rx .receiver .on ≡ false
@@ -25,7 +27,14 @@ enabled = refl
 ones : mask 0x7FF ≡ 0xFE
 ones = refl
 
--- RX Reset leaves the transmit side, its failure too
-sent-stays : (a : Adapter) → rxReset a .tx ≡ a .tx
-unfolding tx.txReset
-sent-stays a = refl
+-- The two kinds of failure clear apart: RX Reset leaves a transmit failure, TX Reset clears it.
+failing : Adapter
+failing = let a = powerOn [] 0 in withTx (tx.withQueue (record { failed = true; packets = []; part = noPart }) (a .tx)) a
+
+tx-failure-stays : rxReset failing .tx .queue .failed ≡ true
+unfolding failing powerOn
+tx-failure-stays = refl
+
+tx-failure-clears : txReset failing .tx .queue .failed ≡ false
+unfolding failing tx.txReset powerOn
+tx-failure-clears = refl

@@ -2,4 +2,4 @@
 pub mod Ways
 pub mod Keeps
 pub mod HandUp
-mod Examples
+pub mod Examples

@@ -1,3 +1,4 @@
--- What the proofs of several functions use.
+-- What the proofs of several functions use, and examples.
 pub mod Xor
-mod Spans
+pub mod Spans
+pub mod Examples

@@ -19,7 +19,7 @@ fn read_frame(ram: &[u8], dir: &[u16], c: Card, area: &mut [u8], n: usize) -> Ca
     let mut at = c;
     let mut i: usize = 0;
     while i < n {
-        let w = steps::read_word(ram, dir, at, talk::DATA);
+        let w = steps_code::read_word(ram, dir, at, talk::DATA);
         let v = w.value;
         let next = w.card;
         at = next;
@@ -59,7 +59,7 @@ pub fn fetch(
     }
     if n <= 256 {
         let read = read_frame(ram, dir, c, look, n);
-        let end = steps::write_word(ram, dir, read, talk::STATUS, talk::RX_DISCARD);
+        let end = steps_code::write_word(ram, dir, read, talk::STATUS, talk::RX_DISCARD);
         return Served {
             driver: d,
             card: end,
@@ -69,7 +69,7 @@ pub fn fetch(
         };
     }
     let read = read_frame(ram, dir, c, frame, n);
-    let end = steps::write_word(ram, dir, read, talk::STATUS, talk::RX_DISCARD);
+    let end = steps_code::write_word(ram, dir, read, talk::STATUS, talk::RX_DISCARD);
     Served {
         driver: d,
         card: end,

@@ -9,7 +9,7 @@ use borrow.Author.Tests.{le-leb, lt-leb, eq-eqb, ne-eqb}
 use lib.Dec.{eqb, leb}
 use lib.ListN.{length, take, drop, getD, set, length-set, drop-of-length-le}
 use lib.Seq.{drop-cons, take-suc-set}
-use Rattle.hex.specs.declared.reading.Spelled.the-variants.{Bytes, Wrong}
+use Rattle.hex.specs.declared.Spelled.the-variants.{Bytes, Wrong}
 use Rattle.hex.specs.Text.{readOn, valued, valueOf, isHex, isPairs, bytesOf, Paired}
 
 -- One digit more is read.

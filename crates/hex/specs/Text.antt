@@ -5,8 +5,8 @@ use mathlib.Core.Bool.{Bool, true, false, cond, _&&_}
 use mathlib.Core.List.{List, [], _∷_, _++_}
 use lib.ListN.{length, take}
 use lib.Dec.{ltb, leb, eqb}
-use Rattle.hex.specs.declared.reading.Spelled.{Spelled}
-use Rattle.hex.specs.declared.reading.Spelled.the-variants.{Bytes, Wrong}
+use Rattle.hex.specs.declared.Spelled.{Spelled}
+use Rattle.hex.specs.declared.Spelled.the-variants.{Bytes, Wrong}
 
 -- ---- reading
 

@@ -1,12 +1,8 @@
-// Digits: numbers and byte strings are read from text and put into text.
-mod printing;
-mod reading;
+// Digits: what numbers and byte strings are in text.
+// Here the structs and definitions; the functions are the crate `hex_code`.
 
-pub use printing::put;
-pub use printing::put_byte;
-pub use printing::put_bytes;
-pub use printing::put_decimal;
-pub use printing::put_word;
-pub use reading::Spelled;
-pub use reading::number;
-pub use reading::pairs;
+// A byte string in hex: how many bytes, or not one.
+pub enum Spelled {
+    Bytes(usize),
+    Wrong,
+}

@@ -104,4 +104,4 @@ decimal-back n h =
     rw (ne-eqb (length (placesText 5 n)) 0 (some-digit (ltb n 10) (placesText 4 (n / 10)) (digitOf n) (digitOf (n % 10)))) (places-back 5 n (omega arith) h)
 
 pub round-trips : Round-trips
-round-trips = record { digits = digits-back; bytes = bytes-back; byte = byte-back; word = word-back; decimal = decimal-back }
+round-trips = record { digits = digits-back; bytes = bytes-back; byte = byte-back; word = λ v h. word-back v (omega arith); decimal = decimal-back }

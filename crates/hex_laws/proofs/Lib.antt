@@ -1,2 +1,3 @@
--- The law, and what leads to it.
+-- The law, what leads to it, and examples.
 pub mod Back
+pub mod Examples

@@ -9,19 +9,19 @@ use port_cards::digit;
 pub fn written(i: IdState, port: u16, byte: u8) -> IdState
     ensures { λ r. ⌜ r ≡ idWrite i (digitOf port) byte ⌝ }
 {
-    idport::id_write(i, digit(port), byte)
+    idport_code::id_write(i, digit(port), byte)
 }
 
 // The bit that the card drives when the port is read; 1 if it drives none.
 pub fn bit(i: IdState, port: u16) -> u8
     ensures { λ r. ⌜ r ≡ idBit i (digitOf port) ⌝ }
 {
-    idport::id_bit(i, digit(port))
+    idport_code::id_bit(i, digit(port))
 }
 
 // The port was read, and the bus carried `bus`.
 pub fn heard(i: IdState, port: u16, bus: u8) -> IdState
     ensures { λ r. ⌜ r ≡ idAfterRead i (digitOf port) bus ⌝ }
 {
-    idport::id_after_read(i, digit(port), bus)
+    idport_code::id_after_read(i, digit(port), bus)
 }

@@ -1,2 +1,2 @@
 -- Worked examples.
-mod Examples
+pub mod Examples

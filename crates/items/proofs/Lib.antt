@@ -1,3 +1,3 @@
--- What the proofs of several functions use, and an example.
+-- What the proofs of several functions use, and worked figures.
 pub mod Ways
-mod Examples
+pub mod Examples

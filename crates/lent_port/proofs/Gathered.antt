@@ -20,7 +20,7 @@ use Rattle.search.specs.Port.{held, rest}
 use Rattle.search.specs.Calls.{refused, told, Outcome, foundOf, activatedOf, padded, allSound, allowed, naming, digitOf, refusing, judged, findsCards, activatesCard}
 use Rattle.search.proofs.Cards.{sound-turn}
 use Rattle.laws.proofs.Tests.{both}
-use Rattle.search.proofs.Outcomes.{outside, goes, few}
+use Rattle.search_code.proofs.Outcomes.{outside, goes, few}
 use Rattle.lent_port.specs.declared.Listed.{Listed}
 use Rattle.lent_steps.specs.declared.seats.Taken.{Taken}
 use Rattle.lent_steps.specs.Steps.{emptied, takenWith, foundIn, activatedIn, seatOf}

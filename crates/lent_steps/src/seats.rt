@@ -4,16 +4,16 @@ ghost use Rattle.search.specs.Calls.{foundOf, activatedOf};
 ghost use Rattle.lent_steps.specs.Steps.{emptied, joinedTo, takenWith, foundIn, activatedIn, seatOf};
 use super::look::one_more;
 use idport::IdState;
-use idport::fresh;
-use idport::id_sound;
+use idport_code::fresh;
+use idport_code::id_sound;
 use refusal::Refusal;
 use search::Activation;
 use search::AfterActivation;
 use search::AfterSearch;
 use search::Bus;
 use search::Found;
-use search::activate_card;
-use search::find_cards;
+use search_code::activate_card;
+use search_code::find_cards;
 
 // The cards taken in so far. Of a ninth and later card only its soundness and the count are kept.
 pub struct Taken {

@@ -1,2 +1,3 @@
--- What the proof of `open` uses.
+-- What the proof of `open` uses, and a worked figure.
 pub mod Ways
+pub mod Examples

@@ -1,11 +1,13 @@
 -- Computed examples of the status stack. Assumes nothing.
 use mathlib.Core.Path.{_≡_, refl}
-use mathlib.Core.Bool.{true, false}
+use mathlib.Core.Bool.{Bool, true, false}
 use mathlib.Core.List.{[], _∷_, _++_}
 use Prim.Native.Nat.{ℕ, zero, suc}
 use lib.ListN.{replicate}
+use Rattle.outcomes.specs.declared.Outcomes.{Outcomes}
 use Rattle.outcomes.specs.Reports.{Reports}
-use Rattle.outcomes.specs.Outcome.{atPowerOn, push, rest, top, pop, succeeded, collided, enable, due, setLevel, settleAvailable, acknowledge}
+use Rattle.outcomes.specs.Outcome.{atPowerOn, push, rest, top, pop, succeeded, collided, enable, reset, due, setLevel, settleAvailable, acknowledge}
+use Rattle.outcomes.specs.View.{soundOutcomes}
 
 -- n successes of packets that wanted one told
 successes : ℕ → Reports → Reports
@@ -29,6 +31,28 @@ full-stays-off = refl
 popped-goes-on : enable (pop (successes 31 (enable atPowerOn))) .sender .on ≡ true
 unfolding successes succeeded push enable rest
 popped-goes-on = refl
+
+-- a pop takes one status, and the transmitter stays on
+popped-stays-on : pop (successes 2 (enable atPowerOn)) ≡ record { sender = record { on = true; available = false; level = 2044; start = 2044 }; statuses = 192 ∷ [] }
+unfolding successes succeeded push enable rest
+popped-stays-on = refl
+
+-- TX Reset turns it off, and the statuses stay
+reset-keeps : reset (successes 2 (enable atPowerOn)) ≡ record { sender = record { on = false; available = false; level = 2044; start = 2044 }; statuses = 192 ∷ 192 ∷ [] }
+unfolding successes succeeded push enable
+reset-keeps = refl
+
+-- 31 statuses are sound only with the transmitter off
+full : Bool → Outcomes
+full on = record { sender = record { on = on; available = false; level = 2044; start = 2044 }; statuses = record { entries = replicate 31 192; count = 31 } }
+
+full-and-off : soundOutcomes (full false) ≡ true
+unfolding full soundOutcomes
+full-and-off = refl
+
+full-and-on : soundOutcomes (full true) ≡ false
+unfolding full soundOutcomes
+full-and-on = refl
 
 -- 16 collisions push 88h, or C8h with bit 15
 collisions-unwanted : collided false (enable atPowerOn) .statuses ≡ 136 ∷ []

@@ -1,5 +1,4 @@
 -- Laws of the status stack and of the sender's registers, and how a field is lent.
 pub mod Entries
 pub mod Keeps
-mod Lent
-mod Examples
+pub mod Examples

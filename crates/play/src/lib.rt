@@ -1,6 +1,8 @@
 // Plays a script: input is read in pieces, and each line is answered as soon as it is whole.
+use bench_state::Bench;
 use libc::STDOUT_FILENO;
-use session::Bench;
+
+mod session; // session.rt: one line of a script
 
 // The state between two pieces: the bench, and how many characters of an unfinished line stand in the line's room; 8,194 for too many.
 pub struct Playing {
@@ -106,7 +108,7 @@ pub fn play(fd: i32) {
     let mut dir = [0u16; 1110];
     let mut line = [0u8; 8193];
     let mut p = Playing {
-        bench: session::powered([0; 64]),
+        bench: bench_state::powered([0; 64]),
         count: 0,
     };
     let mut turns = u64::MAX;

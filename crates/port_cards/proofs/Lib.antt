@@ -1,2 +1,3 @@
 -- Laws that the proofs of `port_cards` cite.
 pub mod Cards
+pub mod Examples

@@ -4,8 +4,8 @@ ghost use Prim.Native.Nat.{_≤_, min};
 ghost use lib.ListN.{take};
 ghost use Rattle.port_cards.specs.Gathered.{portBit, allSound, isPort, naming, digitOf};
 use idport::IdState;
-use idport::id_bit;
-use idport::id_sound;
+use idport_code::id_bit;
+use idport_code::id_sound;
 
 fn least(a: u8, b: u8) -> u8
     ensures { λ r. ⌜ r ≡ min a b ⌝ }

@@ -8,7 +8,8 @@ use lib.ListN.{length, replicate}
 use Rattle.store.specs.Store.{Frame, begun}
 use Rattle.queue.specs.Queue.{Queue, empty, noPart, room, free}
 use Rattle.queue.specs.Write.{put, completed}
-use Rattle.queue.specs.Leave.{told}
+use Rattle.queue.specs.Leave.{oldestWanted, told, others, leave}
+use Rattle.queue.specs.Sound.{allSized, orderly}
 use Rattle.queue.specs.Whole.{puts, bytesOf}
 use Rattle.queue.proofs.Whole.{written-whole}
 
@@ -58,6 +59,11 @@ by-twos : (free 3072 (puts 3072 (14 ∷ []) empty) ≡ 3070) × (free 3072 (puts
 unfolding puts put completed free room
 by-twos = (refl, refl)
 
+-- one byte is no room for a word
+one-byte : put 1 14 empty ≡ record { failed = true; packets = []; part = noPart }
+unfolding put free room
+one-byte = refl
+
 -- a preamble of 5 fails, and so does one of 1,793; neither takes room. 6 and 1,792 are taken
 fails-5 : put 3072 5 empty ≡ record { failed = true; packets = []; part = noPart }
 unfolding put free room
@@ -86,3 +92,26 @@ sixty = refl
 
 included : told (begun 4 (replicate 14 1)) ≡ replicate 14 1
 included = refl
+
+-- completion is wanted by bit 15, and not by bit 14
+wanted-15 : oldestWanted (begun 16 (replicate 14 1) ∷ []) ≡ true
+unfolding oldestWanted
+wanted-15 = refl
+
+unwanted-14 : oldestWanted (begun 8 (replicate 14 1) ∷ []) ≡ false
+unfolding oldestWanted
+unwanted-14 = refl
+
+-- the oldest packet leaves, and all that has come of the one being written stays: 3 words of data are 6 bytes
+leaves : leave (puts 3072 (14 ∷ 0 ∷ 513 ∷ 1027 ∷ 1541 ∷ []) (written 14 8 empty)) ≡ record { failed = false; packets = []; part = record { words = 5; preamble = 14; bytes = 1 ∷ 2 ∷ 3 ∷ 4 ∷ 5 ∷ 6 ∷ [] } }
+unfolding written puts put completed free room others
+leaves = refl
+
+-- of 64 bytes a packet of 40 takes 44, and two would take 88
+sum-fits : orderly 64 (stores (begun 0 (replicate 40 0) ∷ [])) ≡ true
+unfolding stores room allSized
+sum-fits = refl
+
+sum-over : orderly 64 (stores (begun 0 (replicate 40 0) ∷ begun 0 (replicate 40 0) ∷ [])) ≡ false
+unfolding stores room allSized
+sum-over = refl

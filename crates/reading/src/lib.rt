@@ -95,7 +95,7 @@ pub fn read_data(ram: &[u8], dir: &[u16], size: usize, r: Receive) -> Got
         };
     }
     let count = r.frames;
-    let have = receive::readable_bytes(ram, dir, size, count);
+    let have = receive_code::readable_bytes(ram, dir, size, count);
     let read = a.read;
     let end = read + 2;
     let mut next = r;

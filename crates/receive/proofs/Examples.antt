@@ -4,12 +4,14 @@ use mathlib.Core.Bool.{Bool, true, false}
 use mathlib.Core.List.{List, [], _∷_}
 use Prim.Native.Nat.{ℕ, zero, suc}
 use lib.ListN.{replicate}
-use Rattle.store.specs.Store.{atNewest}
+use Rattle.store.specs.Store.{atNewest, frames, roomOf}
 use Rattle.receive.specs.Frame.{coming, Frame, Rx, isComing, overran, room}
 use Rattle.receive.specs.Update.{withFailed, withEarly, withThreshold, withReceiver}
 use Rattle.receive.specs.Wire.{passes, begins, wireStart, marked, wireByte, ending, wireEnd}
 use Rattle.receive.specs.Reading.{marks, rxStatus, readable, oldest, dataWord, afterRead, withoutOldest, discard}
 use Rattle.receive.specs.Early.{earlyFlag, toldFlag, settleEarly}
+use Rattle.receive.specs.Sound.{inOrder, earlySettled}
+use Rattle.receive.specs.View.{stateOf, soundSide}
 
 -- a receiver that is on, with the wire in the state w and some frames stored
 side : ℕ → List Frame → Rx
@@ -47,10 +49,19 @@ no-room : wireStart 7 true (replicate 8 7) (side 0 []) ≡ side 1 []
 unfolding side wireStart begins room
 no-room = refl
 
--- bytes past 1,792 are dropped, and mark nothing
+-- a frame that has started is incomplete
+begun : status (wireStart 5120 true (replicate 8 7) (side 0 [])) ≡ 0x8008
+unfolding status side wireStart begins room rxStatus marks
+begun = refl
+
+-- bytes past 1,792 are dropped, with room for them or without, and mark nothing
 past-1792 : wireByte 1792 7 (arriving 1792) ≡ arriving 1792
 unfolding side arriving wireByte marked atNewest room overran
 past-1792 = refl
+
+past-roomy : wireByte 5120 7 (arriving 1792) ≡ arriving 1792
+unfolding side arriving wireByte marked atNewest room overran
+past-roomy = refl
 
 -- the filter's bits: the station's own address, a group, broadcast, all
 own : passes 1 (replicate 6 2) (replicate 8 2) ≡ true
@@ -135,6 +146,11 @@ last-word : dataWord (reads 30 (wireEnd true true (arriving 61))) ≡ 7
 unfolding reads side arriving wireEnd ending atNewest overran isComing readable afterRead earlyFlag toldFlag dataWord oldest
 last-word = refl
 
+-- and the 32nd is pad alone
+pad-word : dataWord (reads 31 (wireEnd true true (arriving 61))) ≡ 0
+unfolding reads side arriving wireEnd ending atNewest overran isComing readable afterRead earlyFlag toldFlag dataWord oldest
+pad-word = refl
+
 -- a read past the rounded length is a failure, which gives 0 and moves nothing
 past-end : status (reads 33 (wireEnd true true (arriving 61))) ≡ 0x07FD
 unfolding reads status side arriving wireEnd ending atNewest overran isComing readable afterRead earlyFlag toldFlag rxStatus marks
@@ -184,3 +200,18 @@ early-set = refl
 early-once : settleEarly (early false true) ≡ early false true
 unfolding early arriving side earlyFlag toldFlag isComing
 early-once = refl
+
+-- ---- the test of soundness
+
+-- an idle receiver with 64 bytes, and n whole frames of 40 in the directory
+handed : ℕ → Bool
+handed n = soundSide 64 (record { receiver = side 0 [] .receiver; frames = n }) (replicate 64 7) (replicate 2 40)
+
+-- one fits; two would take 80
+sum-fits : handed 1 ≡ true
+unfolding handed side soundSide frames roomOf room isComing stateOf inOrder readable earlySettled
+sum-fits = refl
+
+sum-over : handed 2 ≡ false
+unfolding handed side soundSide frames roomOf room isComing stateOf inOrder readable earlySettled
+sum-over = refl

@@ -6,3 +6,4 @@ pub mod Sides
 pub mod Ends
 pub mod Quiet
 pub mod Checked
+pub mod Examples

@@ -23,15 +23,15 @@ pub fn report(ram: &mut [u8], dir: &mut [u16], c: Card, d: Driver, left: usize) 
             paused: false,
         };
     }
-    let first = steps::read_byte(ram, dir, c, talk::TX_STATUS);
+    let first = steps_code::read_byte(ram, dir, c, talk::TX_STATUS);
     let status = first.value;
-    let popped = steps::write_byte(ram, dir, first.card, talk::TX_STATUS, 0);
-    let second = steps::read_byte(ram, dir, popped, talk::TX_STATUS);
+    let popped = steps_code::write_byte(ram, dir, first.card, talk::TX_STATUS, 0);
+    let second = steps_code::read_byte(ram, dir, popped, talk::TX_STATUS);
     let last = second.card;
     let wrong = d.error | (0 < status / 4 % 16);
     if wrong & (second.value == 0) {
-        let on = steps::write_word(ram, dir, last, talk::STATUS, talk::TX_ENABLE);
-        return items::told(on, items::with_error(d, false), status, left - 4);
+        let on = steps_code::write_word(ram, dir, last, talk::STATUS, talk::TX_ENABLE);
+        return items_code::told(on, items_code::with_error(d, false), status, left - 4);
     }
-    items::told(last, items::with_error(d, wrong), status, left - 3)
+    items_code::told(last, items_code::with_error(d, wrong), status, left - 3)
 }

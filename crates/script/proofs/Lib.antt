@@ -1,2 +1,3 @@
--- Laws of words and lines.
+-- Laws of words and lines, and examples.
 pub mod Lines
+pub mod Examples

@@ -12,7 +12,7 @@ use borrow.Author.Tests.{le-leb, lt-leb, leb-true, eq-eqb, ne-eqb}
 use lib.ListN.{length, take, drop, getD, drop-of-length-le, length-drop}
 use lib.Seq.{drop-cons, take-take, take-all}
 use Rattle.hex.specs.Text.{isHex, isPairs, bytesOf, Paired}
-use Rattle.hex.specs.declared.reading.Spelled.the-variants as spelled
+use Rattle.hex.specs.declared.Spelled.the-variants as spelled
 use Rattle.script.specs.declared.Kind.{Kind}
 use Rattle.script.specs.declared.Line.{Line}
 use Rattle.script.proofs.Kind.{the-type}

@@ -3,4 +3,3 @@ pub mod Port
 pub mod Search
 pub mod Calls
 pub mod Leads
-pub mod Held

@@ -1,2 +1,3 @@
--- What the proof of `send` uses.
+-- What the proof of `send` uses, and a worked figure.
 pub mod Ways
+pub mod Examples

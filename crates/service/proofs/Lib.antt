@@ -1,3 +1,4 @@
--- What the proofs of several functions use.
+-- What the proofs of several functions use, and worked figures.
 pub mod Ways
 pub mod Unmoved
+pub mod Examples

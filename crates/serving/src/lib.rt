@@ -1,56 +1,12 @@
 // A whole service: look and receive, begun again where they paused, until an item is found or the budget is short.
-ghost use Rattle.regs.specs.View.{view, Sound};
-ghost use Rattle.talk.specs.Talk.{run};
-ghost use Rattle.items.specs.Meets.{Ready};
-ghost use Rattle.service.specs.Service.{lookTalk};
-ghost use Rattle.service.specs.Serves.{Unmoved};
-ghost use Rattle.serving.specs.Serving.{Serves};
+// Here the structs and definitions; the functions are the crate `serving_code`.
 use items::Answer;
 use regs::Card;
 use talk::Driver;
-
-// The turns that look and receive take before they pause: they bound the stack.
-const TURNS: usize = 256;
 
 pub struct Serviced {
     pub card: Card,
     pub driver: Driver,
     pub answer: Answer,
     pub used: usize,
-}
-
-// A whole service: it goes on where look and receive paused.
-pub fn serve(
-    ram: &mut [u8],
-    dir: &mut [u16],
-    c: Card,
-    d: Driver,
-    ahead: &mut [u8],
-    frame: &mut [u8],
-    budget: usize,
-) -> Serviced
-    requires { ⌜ Ready c (now ram) (now dir) (now ahead) (now frame) ⌝ }
-    ensures { λ r. ⌜ Serves (run (lookTalk budget d) (view c (now (ram .entry)) (now (dir .entry)))) r (view (r .card) (now (ram .exit)) (now (dir .exit))) (now (ahead .entry)) (now (frame .entry)) (now (ahead .exit)) (now (frame .exit)) × (Sound (r .card) (now (ram .exit)) (now (dir .exit)) × Unmoved (run (lookTalk budget d) (view c (now (ram .entry)) (now (dir .entry)))) c (r .card) (now (ram .entry)) (now (dir .entry)) (now (ram .exit)) (now (dir .exit))) ⌝ }
-{
-    let mut at = c;
-    let mut driver = d;
-    let mut left = budget;
-    loop {
-        let s = service::look(ram, dir, at, driver, ahead, frame, left, TURNS);
-        let next = s.driver;
-        let after = s.card;
-        let answer = s.answer;
-        let rest = s.left;
-        if !s.paused {
-            return Serviced {
-                card: after,
-                driver: next,
-                answer: answer,
-                used: budget - rest,
-            };
-        }
-        driver = next;
-        at = after;
-        left = rest;
-    }
 }

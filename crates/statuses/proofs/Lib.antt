@@ -1,2 +1,3 @@
 -- Laws of the status stack.
 pub mod Entries
+mod Examples

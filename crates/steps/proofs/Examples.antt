@@ -23,7 +23,7 @@ use Rattle.regs.specs.Power.{powerOn}
 use Rattle.commands.specs.Command.{act, command, commanded}
 use Rattle.window_read.specs.Read.{window1, wordAt, afterWord}
 use Rattle.window_write.specs.Write.{write1, write, writeWord}
-use Rattle.steps.specs.Access.{Access, ReadWord, WriteWord, access, effect}
+use Rattle.steps.specs.Access.{Access, ReadWord, ReadByte, WriteWord, access, effect}
 use Rattle.steps.specs.Event.{wireStart, wireByte, wireEnd}
 
 -- a power-on card with words of zero, activated
@@ -56,6 +56,15 @@ bytes (suc n) a = bytes n (wireByte 0 a)
 
 frame : ℕ → Bool → Bool → Adapter
 frame n check alignment = wireEnd check alignment (bytes n (wireStart (replicate 8 0) ready))
+
+-- an inactive card reads all ones: a word, and a byte
+inactive-word : reads 14 (powerOn [] 0) ≡ 0xFFFF
+unfolding reads access effect powerOn
+inactive-word = refl
+
+inactive-byte : (access (ReadByte 14) (powerOn [] 0)) .value ≡ 0xFF
+unfolding access effect powerOn
+inactive-byte = refl
 
 -- Status in window 1 with nothing pending
 status-idle : reads 14 ready ≡ 0x2000

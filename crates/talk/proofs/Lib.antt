@@ -1,5 +1,5 @@
--- Laws that the proofs of the driver use.
+-- Laws that the proofs of the driver use, and worked figures.
 pub mod Runs
 pub mod Reading
 pub mod Status
-mod Examples
+pub mod Examples

@@ -1,14 +1,19 @@
 -- Computed examples of the transmit side. Assumes nothing.
 use mathlib.Core.Path.{_≡_, refl}
-use mathlib.Core.Bool.{true, false}
+use mathlib.Core.Bool.{Bool, true, false}
 use mathlib.Core.List.{List, [], _∷_, _++_}
 use Prim.Native.Nat.{ℕ}
 use lib.ListN.{replicate}
+use Rattle.store.specs.Store.{frames, roomOf}
 use Rattle.queue.specs.Queue.{empty, free, room}
 use Rattle.queue.specs.Write.{put, completed}
 use Rattle.queue.specs.Leave.{oldestWanted, toldOf, others}
+use Rattle.queue.specs.Sound.{allSized}
+use Rattle.queue.specs.View.{partOf, soundFifo}
 use Rattle.outcomes.specs.Outcome.{enable, push, succeeded, collided, due, setLevel}
+use Rattle.outcomes.specs.View.{soundOutcomes}
 use Rattle.transmit.specs.Tx.{Tx, onReports, txPowerOn, writeData, any, ready, success, collisions, txReset, settle}
+use Rattle.transmit.specs.View.{soundSide}
 
 writes : List ℕ → Tx → Tx
 writes [] x = x
@@ -22,6 +27,11 @@ stored = writes (32782 ∷ 0 ∷ replicate 8 257) (onReports enable txPowerOn)
 stored-ready : (ready stored ≡ true) × (toldOf (stored .queue .packets) ≡ replicate 14 1 ++ replicate 46 0)
 unfolding stored writes enable put completed free room any toldOf
 stored-ready = (refl, refl)
+
+-- while a transmit failure stands it cannot
+failed-waits : ready (writes (5 ∷ []) stored) ≡ false
+unfolding stored writes enable put completed free room any
+failed-waits = refl
 
 -- at a success its room returns and C0h is pushed; at 16 collisions C8h, and the transmitter is off
 stored-sent : (success stored .queue ≡ empty) × (success stored .reports .statuses ≡ 192 ∷ [])
@@ -41,3 +51,25 @@ failed-reset = (refl, refl)
 settled : settle 3072 (onReports (setLevel 1000) txPowerOn) .reports .sender .available ≡ true
 unfolding due free room
 settled = refl
+
+-- an empty FIFO with that threshold is sound only while TX Available stands (no memory is read)
+handed : Bool → Bool
+handed stands =
+    soundSide 3072
+    (record {
+      fifo = record { failed = false; packets = 0; words = 0 };
+      outcomes =
+          record {
+            sender = record { on = false; available = stands; level = 1000; start = 2044 };
+            statuses = record { entries = replicate 31 0; count = 0 };
+          };
+    })
+    [] []
+
+settled-sound : handed true ≡ true
+unfolding handed soundSide soundFifo frames roomOf partOf room free allSized soundOutcomes due
+settled-sound = refl
+
+unsettled : handed false ≡ false
+unfolding handed soundSide soundFifo frames roomOf partOf room free allSized soundOutcomes due
+unsettled = refl

@@ -1,2 +1,3 @@
 pub mod Free
 pub mod In
+pub mod Examples

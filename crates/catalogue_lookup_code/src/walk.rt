@@ -1,0 +1,145 @@
+// The fields of one card.
+ghost use mathlib.Core.Path.{_≡_};
+ghost use mathlib.Core.Bool.{cond};
+ghost use mathlib.Core.List.{List};
+ghost use lib.ListN.{take, drop};
+ghost use lib.Dec.{eqb};
+ghost use Prim.Native.Nat.{ℕ};
+ghost use Rattle.refusal.specs.declared.Refusal.the-variants.{NoSuchCard};
+ghost use Rattle.fields.specs.Field.{fieldsOf, numberAt};
+ghost use Rattle.catalogue_file.specs.Reading.{addressesOf, isAmong};
+ghost use Rattle.catalogue_file.specs.Cards.{versionsFrom, versionsAt};
+ghost use Rattle.catalogue_lookup.specs.Lookup.{none, lastOf, numberedIn, shownAt, shownIn, versionsBehind, isFound};
+ghost use Rattle.catalogue_lookup.specs.declared.Place.the-variants.{At};
+ghost use Rattle.catalogue_lookup.specs.declared.Hit.the-variants.{InOverride, InMain, Nowhere};
+use catalogue_lookup::Hit;
+use catalogue_lookup::Place;
+use catalogue_lookup::Seek;
+use fields::Found;
+use refusal::Refusal;
+
+// Where a card's fields begin.
+pub fn find_card(file: &[u8], address: u64) -> Seek
+    ensures { λ r. ⌜ versionsBehind (now (file .entry)) r ≡ versionsAt address (fieldsOf (now (file .entry))) ⌝ }
+{
+    let mut at = 0;
+    loop {
+        match fields::field_at(file, at) {
+            Found::Cut => {
+                return Seek::Missing;
+            }
+            Found::Whole { tag, start, len } => {
+                let next = start + len;
+                if catalogue_file_code::search::is_address(file, tag, start, len, address) {
+                    return Seek::Behind(next);
+                }
+                at = next;
+            }
+        }
+    }
+}
+
+// An image is the newest so far.
+fn newer(best: Place, tag: u8, start: usize, len: usize) -> Place
+    ensures { λ r. ⌜ r ≡ cond (eqb tag 3) (At start len) best ⌝ }
+{
+    if tag == 3 {
+        return Place::At { start, len };
+    }
+    best
+}
+
+// The newest image from a place up to the next card.
+pub fn newest(file: &[u8], from: usize) -> Place
+    ensures { λ r. ⌜ shownAt (now (file .entry)) r ≡ lastOf (none NoSuchCard) (versionsFrom 0 (fieldsOf (drop from (now (file .entry))))) ⌝ }
+{
+    let mut best = Place::Refused(Refusal::NoSuchCard);
+    let mut at = from;
+    loop {
+        match fields::field_at(file, at) {
+            Found::Cut => {
+                return best;
+            }
+            Found::Whole { tag, start, len } => {
+                if tag == 1 {
+                    return best;
+                }
+                best = newer(best, tag, start, len);
+                at = start + len;
+            }
+        }
+    }
+}
+
+// The newest image of a card.
+pub fn newest_at(file: &[u8], address: u64) -> Place
+    ensures { λ r. ⌜ shownAt (now (file .entry)) r ≡ lastOf (none NoSuchCard) (versionsAt address (fieldsOf (now (file .entry)))) ⌝ }
+{
+    match find_card(file, address) {
+        Seek::Missing => Place::Refused(Refusal::NoSuchCard),
+        Seek::Behind(at) => newest(file, at),
+    }
+}
+
+// The number that the next image has.
+fn due(number: u16, file: &[u8], tag: u8, start: usize, len: usize) -> u16
+    ensures { λ r. ⌜ r ≡ cond (eqb tag 2) (numberAt (take len (drop start (now (file .entry)))) 0) number ⌝ }
+{
+    if tag == 2 {
+        return fields::value_number(file, start, len);
+    }
+    number
+}
+
+// The image with a number, from a place up to the next card.
+fn numbered(file: &[u8], from: usize, number: u16) -> Place
+    ensures { λ r. ⌜ shownAt (now (file .entry)) r ≡ numberedIn number (versionsFrom 0 (fieldsOf (drop from (now (file .entry))))) ⌝ }
+{
+    let mut told: u16 = 0;
+    let mut at = from;
+    loop {
+        match fields::field_at(file, at) {
+            Found::Cut => {
+                return Place::Refused(Refusal::NoSuchCard);
+            }
+            Found::Whole { tag, start, len } => {
+                if tag == 1 {
+                    return Place::Refused(Refusal::NoSuchCard);
+                }
+                if (tag == 3) & (told == number) {
+                    return Place::At { start, len };
+                }
+                told = due(told, file, tag, start, len);
+                at = start + len;
+            }
+        }
+    }
+}
+
+// The image of a card with a number.
+pub fn numbered_at(file: &[u8], address: u64, number: u16) -> Place
+    ensures { λ r. ⌜ shownAt (now (file .entry)) r ≡ numberedIn number (versionsAt address (fieldsOf (now (file .entry)))) ⌝ }
+{
+    match find_card(file, address) {
+        Seek::Missing => Place::Refused(Refusal::NoSuchCard),
+        Seek::Behind(at) => numbered(file, at, number),
+    }
+}
+
+pub fn in_override(found: Place) -> Hit
+    ensures { λ r. ⌜ ((own main : List ℕ) → shownIn own main r ≡ shownAt own found) ⌝ }
+{
+    match found {
+        Place::At { start, len } => Hit::InOverride { start, len },
+        Place::Refused(why) => Hit::Nowhere(why),
+    }
+}
+
+pub fn in_main(found: Place) -> Hit
+    ensures { λ r. ⌜ ((own main : List ℕ) → shownIn own main r ≡ shownAt main found) ⌝ }
+{
+    match found {
+        Place::At { start, len } => Hit::InMain { start, len },
+        Place::Refused(why) => Hit::Nowhere(why),
+    }
+}

@@ -1,8 +1,0 @@
--- `changes::unknown_fields_stay` meets its contract, which is the law of `Kept`.
--- Assumes nothing.
-use Rattle.changes.proofs.Kept.{unknown-fields-stay}
-use Rattle.changes.proofs.unknown_fields_stay.Statement.{statement}
-use Rattle.changes.proofs.unknown_fields_stay.Tie as tie
-
-pub unknown-fields-stay-spec : {M : Type 1} → statement M
-unknown-fields-stay-spec = tie.close (tie.spec (λ c. unknown-fields-stay))

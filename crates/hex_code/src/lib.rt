@@ -1,0 +1,11 @@
+// Digits: numbers and byte strings are read from text and put into text.
+mod printing;
+mod reading;
+
+pub use printing::put;
+pub use printing::put_byte;
+pub use printing::put_bytes;
+pub use printing::put_decimal;
+pub use printing::put_word;
+pub use reading::number;
+pub use reading::pairs;

@@ -1,0 +1,92 @@
+// One card on the ID port: document 01, "Finding cards on one ID port", and the manual's ISA Activation chapter.
+ghost use mathlib.Core.Path.{_≡_};
+ghost use Rattle.idport.specs.Sequence.{The-sequence};
+ghost use Rattle.idport.specs.Card.{idFresh, idWrite, idBit, idAfterRead};
+ghost use Rattle.idport.specs.Sound.{idSound, Every-step-keeps-soundness};
+use idport::IdState;
+
+mod command;
+mod contend;
+pub mod sequence;
+mod wait;
+
+// A card after power-on, with these words in its EEPROM.
+pub fn fresh(words: [u16; 64]) -> IdState
+    ensures { λ r. ⌜ r ≡ idFresh words ⌝ }
+{
+    let address = words[8];
+    IdState {
+        command: false,
+        port: 16,
+        at: 0,
+        tag: 0,
+        shift: 0,
+        address: address,
+        active: false,
+        due: false,
+        words: words,
+    }
+}
+
+// Whether the state is one that a card can be in.
+pub fn id_sound(s: IdState) -> bool
+    ensures { λ r. ⌜ r ≡ idSound s ⌝ }
+{
+    (s.port <= 16)
+        & (s.at <= 254)
+        & (s.tag <= 7)
+        & (!s.command | ((s.port <= 15) & (s.at == 0)))
+        & (!(s.port == 16) | (s.at == 0))
+}
+
+// A byte written to port 1x0h, where `port` is x.
+pub fn id_write(s: IdState, port: u8, byte: u8) -> IdState
+    ensures { λ r. ⌜ r ≡ idWrite s port byte ⌝ }
+{
+    let own = s.port;
+    if s.command {
+        if port == own {
+            return command::obey(s, byte);
+        }
+        return s;
+    }
+    wait::listen(s, port, byte)
+}
+
+// The bit that the card drives when the port is read; a card that drives none leaves the bus its 1.
+pub fn id_bit(s: IdState, port: u8) -> u8
+    ensures { λ r. ⌜ r ≡ idBit s port ⌝ }
+{
+    if contend::drives(s, port) {
+        return (s.shift >> 15) as u8;
+    }
+    1
+}
+
+// The card after a read of the port that gave `bus`.
+pub fn id_after_read(mut s: IdState, port: u8, bus: u8) -> IdState
+    ensures { λ r. ⌜ r ≡ idAfterRead s port bus ⌝ }
+{
+    if contend::drives(s, port) {
+        let mine = id_bit(s, port);
+        s.shift = s.shift << 1;
+        if bus == mine {
+            return s;
+        }
+        s.command = false;
+        s.port = 16;
+        s.at = 0;
+        return s;
+    }
+    s
+}
+
+// The table starts at FFh and ends at 98h, and a zero never occurs in it.
+pub fn the_sequence()
+    ensures { λ r. ⌜ The-sequence ⌝ }
+{}
+
+// A card is sound after power-on, and every write and read keeps it so.
+pub fn every_step_keeps_soundness()
+    ensures { λ r. ⌜ Every-step-keeps-soundness ⌝ }
+{}

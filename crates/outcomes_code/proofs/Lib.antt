@@ -1,0 +1,2 @@
+-- Laws of the functions of `outcomes_code`.
+pub mod Lent

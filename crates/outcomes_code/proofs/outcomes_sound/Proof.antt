@@ -1,0 +1,11 @@
+-- `outcomes_code::outcomes_sound` meets its contract: its tests are the definition's, on the count for the statuses' number. Assumes nothing.
+use borrow.Author.Needs.{needs}
+use Rattle.outcomes.proofs.Entries.{sound-same}
+use Rattle.outcomes_code.proofs.outcomes_sound.Statement.{statement}
+use Rattle.outcomes_code.proofs.outcomes_sound.Tie as tie
+
+returns : tie.Need-returns
+returns c = sound-same (c .before .before .before .before .args .o) (search needs)
+
+pub outcomes-sound-spec : {M : Type 1} → statement M
+outcomes-sound-spec = tie.close (tie.spec returns)

@@ -1,0 +1,12 @@
+-- `regs_code::interrupts` meets its contract: it is the definition's formula. Assumes nothing.
+use mathlib.Core.Path.{refl}
+use Rattle.regs.specs.Status.{interrupting}
+use Rattle.regs_code.proofs.interrupts.Statement.{statement}
+use Rattle.regs_code.proofs.interrupts.Tie as tie
+
+returns : tie.Need-returns
+unfolding interrupting
+returns c = refl
+
+pub interrupts-spec : {M : Type 1} → statement M
+interrupts-spec = tie.close (tie.spec returns)

@@ -1,0 +1,2 @@
+-- What the proofs of the accesses cite.
+pub mod Held

@@ -1,0 +1,34 @@
+-- Worked figures, computed. Assumes nothing.
+use mathlib.Core.Path.{_≡_, refl}
+use mathlib.Core.Bool.{true, false}
+use mathlib.Core.List.{List, [], _∷_}
+use Prim.Native.Nat.{ℕ}
+use lib.ListN.{getD, drop}
+use Rattle.steps.specs.Access.{Access, ReadWord, ReadByte, WriteWord, WriteByte}
+use Rattle.talk.specs.declared.Driver.{Driver}
+use Rattle.talk.specs.Talk.{Talk, done, ask}
+use Rattle.items.specs.Items.{reportTalk, idleTalk, fetchTalk}
+use Rattle.service.specs.Service.{lookTalk}
+
+-- the accesses of a tree, where they give the values vs in turn, then 0
+made : {A : Type 0} → Talk A → List ℕ → List Access
+made (done x) vs = []
+made (ask x next) vs = x ∷ made (next (getD vs 0 0)) (drop 1 vs)
+
+driver : Driver
+driver = record { opened = true; sent = 7; unreported = 3; error = false }
+
+-- TX Complete, 2004h: TX Status, C0h, the pop, and TX Status again.
+reports : made (lookTalk 5 driver) (0x2004 ∷ (0xC0 ∷ [])) ≡ ReadWord 14 ∷ (ReadByte 11 ∷ (WriteByte 11 0 ∷ (ReadByte 11 ∷ [])))
+unfolding made lookTalk reportTalk driver
+reports = refl
+
+-- RX Complete, 2010h: RX Status. A frame of 60 bytes is not begun with 3 left.
+receives : made (lookTalk 5 driver) (0x2010 ∷ (60 ∷ [])) ≡ ReadWord 14 ∷ (ReadWord 8 ∷ [])
+unfolding made lookTalk fetchTalk driver
+receives = refl
+
+-- One damaged frame, 683Ch, and idle: the discard, Status again, and the acknowledgement.
+looks-again : made (lookTalk 5 driver) (0x2010 ∷ (0x683C ∷ (0 ∷ (0x2000 ∷ [])))) ≡ ReadWord 14 ∷ (ReadWord 8 ∷ (WriteWord 14 0x4000 ∷ (ReadWord 14 ∷ (WriteWord 14 0x6869 ∷ []))))
+unfolding made lookTalk idleTalk driver
+looks-again = refl

@@ -1,4 +1,4 @@
-// The answers of the bench: one line each. The definition is `specs/Answers.antt`.
+// The answers of the bench: one line each. The definition is `answers/specs/Answers.antt`.
 ghost use lib.ListN.{length};
 ghost use mathlib.Core.Path.{_≡_};
 ghost use Rattle.answers.specs.Answers.{lineOf, Says};

@@ -23,7 +23,7 @@ use Rattle.regs.specs.Room.{rxSize, txSize}
 use Rattle.regs.specs.Status.{interrupting}
 use Rattle.regs.specs.Sound.{selectSound}
 use Rattle.regs.specs.View.{view, soundCard}
-use Rattle.card.specs.Calls.{judged, isWord}
+use Rattle.card.specs.Calls.{Reply, refused, done, value, replying, judged, isWord}
 
 -- a card at power-on but for its window; its memory matters to no frame and no packet
 inWindow : ℕ → Card
@@ -54,3 +54,12 @@ unsound-in-8 = refl
 state-unsound : judged (soundCard (inWindow 8) [] []) (isWord 0x0E) 12 ≡ 1
 unfolding judged inWindow soundCard view idSound selectSound rx.soundSide tx.soundSide fifo.soundFifo fifo.partOf soundOutcomes frames roomOf room rxs.inOrder rxs.earlySettled readable complete some queue.room queue.free allSized due interrupting rxSize txSize
 state-unsound = refl
+
+-- a refused call answers its number, another what its step answers
+answers-12 : replying 12 done ≡ refused 12
+unfolding replying
+answers-12 = refl
+
+answers-done : replying 0 done ≡ done
+unfolding replying
+answers-done = refl

@@ -1,7 +1,7 @@
 // A catalogue's file: up to 64 cards, each with one to eight numbered versions of its image.
 use catalogue_file::Judged;
 use catalogue_file::Turn;
-// Here a file is judged; `specs/Reading.antt` says what a file is read as, and how a catalogue is written.
+// Here a file is judged; `catalogue_file/specs/Reading.antt` says what a file is read as, and how a catalogue is written.
 pub mod search;
 mod turns;
 

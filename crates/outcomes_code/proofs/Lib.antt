@@ -1,2 +1,2 @@
--- Laws of the functions of `outcomes_code`.
+-- How a field of a struct is lent.
 pub mod Lent

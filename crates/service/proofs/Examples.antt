@@ -1,19 +1,12 @@
 -- Worked figures, computed. Assumes nothing.
 use mathlib.Core.Path.{_≡_, refl}
 use mathlib.Core.Bool.{true, false}
-use mathlib.Core.List.{List, [], _∷_}
-use Prim.Native.Nat.{ℕ}
-use lib.ListN.{getD, drop}
-use Rattle.steps.specs.Access.{Access, ReadWord, ReadByte, WriteWord, WriteByte}
+use mathlib.Core.List.{[], _∷_}
+use Rattle.steps.specs.Access.{ReadWord, ReadByte, WriteWord, WriteByte}
 use Rattle.talk.specs.declared.Driver.{Driver}
-use Rattle.talk.specs.Talk.{Talk, done, ask}
+use Rattle.talk.proofs.Examples.{made}
 use Rattle.items.specs.Items.{reportTalk, idleTalk, fetchTalk}
 use Rattle.service.specs.Service.{lookTalk}
-
--- the accesses of a tree, where they give the values vs in turn, then 0
-made : {A : Type 0} → Talk A → List ℕ → List Access
-made (done x) vs = []
-made (ask x next) vs = x ∷ made (next (getD vs 0 0)) (drop 1 vs)
 
 driver : Driver
 driver = record { opened = true; sent = 7; unreported = 3; error = false }

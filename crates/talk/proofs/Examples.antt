@@ -1,14 +1,14 @@
 -- Worked figures, computed. Assumes nothing.
 use mathlib.Core.Path.{_≡_, refl}
 use mathlib.Core.Bool.{true, false}
-use mathlib.Core.List.{[], _∷_, _++_}
+use mathlib.Core.List.{List, [], _∷_, _++_}
 use Prim.Native.Nat.{ℕ}
-use lib.ListN.{replicate}
+use lib.ListN.{getD, drop, replicate}
 use Rattle.regs.specs.Adapter.{Adapter}
 use Rattle.steps.specs.Access.{Access, access}
 use Rattle.talk.specs.declared.Driver.{Driver}
 use Rattle.talk.specs.Registers.{unfit, rxComplete, bad}
-use Rattle.talk.specs.Talk.{done, ask, run, wordsOf}
+use Rattle.talk.specs.Talk.{Talk, done, ask, run, wordsOf}
 use Rattle.talk.specs.Driver.{driverSound, opening, oldestTicket}
 use Rattle.talk.specs.Packet.{outside, lacksRoom, packetWords}
 
@@ -108,3 +108,8 @@ words-14 = refl
 one-step : (x : Access) (a : Adapter) → (run (ask x (λ v. done v)) a) .adapter ≡ (access x a) .adapter
 unfolding run
 one-step x a = refl
+
+-- The accesses of a tree, where they give the values vs in turn, then 0: for the examples of those that cite this.
+unfoldable pub made : {A : Type 0} → Talk A → List ℕ → List Access
+made (done x) vs = []
+made (ask x next) vs = x ∷ made (next (getD vs 0 0)) (drop 1 vs)

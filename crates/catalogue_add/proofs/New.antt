@@ -8,7 +8,7 @@ use native.Mathlib.Omega.{arith}
 use lib.ListN.{length, take, drop, length-append, length-drop}
 use lib.Seq.{length-take-le}
 use Rattle.fields.specs.Field.{Field, field, bytesOf, fieldsOf}
-use Rattle.catalogue_file.specs.Reading.{catalogue, countField, fileOf, addressesOf, isAmong, read}
+use Rattle.catalogue_file.specs.Reading.{catalogue, countField, fileOf, addressesOf, isAmong, parsed, read}
 use Rattle.catalogue_file.specs.Cards.{versionsFrom, versionsAt}
 use Rattle.catalogue_laws.specs.RoundTrip.{Bytes}
 use Rattle.catalogue_lookup.proofs.Accepted.{addresses-read}
@@ -19,6 +19,9 @@ use Rattle.catalogue_places.specs.Places.{cardPlace, cardEnd}
 use Rattle.catalogue_add.proofs.Runs.{behindCard}
 use Rattle.catalogue_add.proofs.Whole.{card-bound, count-length, file-length, before-count, take-before, take-behind, no-count, versions-there, end-there, card-file, version-file}
 use Rattle.catalogue_add.proofs.Chains.{card-length}
+
+pub versions-new : (file : List ℕ) (fs : List Field) → parsed file ≡ catalogue fs → (a : ℕ) {at : ℕ} → at ≡ cardPlace a (fieldsOf file) → versionsFrom 0 (fieldsOf (drop at file)) ≡ versionsAt a fs
+versions-new file fs e a atIs = ap (λ (k : ℕ). versionsFrom 0 (fieldsOf (drop k file))) atIs ∙ versions-there file fs e a
 
 module _ (file : List ℕ) (fs : List Field) (b : Bytes file) (e : read file ≡ catalogue fs) (image : List ℕ) (l : length image ≡ 128) {n : ℕ} (many : n ≡ length fs) where
   pub five-least : 5 ≤ length file
@@ -37,9 +40,6 @@ module _ (file : List ℕ) (fs : List Field) (b : Bytes file) (e : read file ≡
       let k : List ℕ = bytesOf (countField (length fs + 3) ∷ []) in
       ap length (card-file fs (field 1 (addressIn image) ∷ versionFields 1 image))
       ∙ omega (arith, length-append (bytesOf fs) (c ++ k), length-append c k, card-length image l, count-length (length fs + 3), file-length file fs b e)
-
-  pub versions-new : (a : ℕ) {at : ℕ} → at ≡ cardPlace a (fieldsOf file) → versionsFrom 0 (fieldsOf (drop at file)) ≡ versionsAt a fs
-  versions-new a atIs = ap (λ (k : ℕ). versionsFrom 0 (fieldsOf (drop k file))) atIs ∙ versions-there file fs b e a
 
   -- With a version at the end of a card's fields.
   module _ (a : ℕ) {at place : ℕ} (atIs : at ≡ cardPlace a (fieldsOf file)) (endIs : place ≡ at + cardEnd (fieldsOf (drop at file))) (y : isAmong a (addressesOf (fieldsOf file)) ≡ true) where

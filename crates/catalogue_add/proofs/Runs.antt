@@ -1,20 +1,19 @@
 -- The bytes of fields one behind the other, and the places in them.
 -- Assumes nothing.
-use Prim.Native.Nat.{ℕ, _+_, _-_}
+use Prim.Native.Nat.{ℕ, zero, suc, _+_, _-_, _≤_}
 use mathlib.Core.Path.{_≡_, refl, sym, ap, _∙_}
 use mathlib.Core.Bool.{Bool, true, false, cond, _&&_}
-use mathlib.Core.List.{List, [], _∷_, _++_, append-assoc}
+use mathlib.Core.List.{List, [], _∷_, _++_}
 use native.Mathlib.Omega.{arith}
 use lib.ListN.{length, take, drop}
-use lib.Seq.{take-append-add, drop-append-add, drop-append-seam}
+use lib.Seq.{take-append-add, drop-append-add}
 use lib.Dec.{eqb}
-use Rattle.fields.specs.Field.{Field, written, bytesOf}
-use Rattle.fields.proofs.Append.{bytes-append}
+use Rattle.fields.specs.Field.{Field, sizeOf, field, written, fieldsOf}
+use Rattle.fields.proofs.At.{Stands, either-way}
 use Rattle.catalogue_file.specs.Turns.{addressOf}
 use Rattle.catalogue_file.specs.Cards.{Version, versionsFrom, versionsAt}
-use Rattle.catalogue_laws.specs.RoundTrip.{Sizes}
 use Rattle.changes.specs.Edit.{isCard}
-use Rattle.catalogue_places.specs.Places.{sizeOf, cardPlace}
+use Rattle.catalogue_places.specs.Places.{cardPlace}
 
 pub size-is : (f : Field) → length (written f) ≡ sizeOf f
 size-is f = omega arith
@@ -26,32 +25,10 @@ take-size f l n = ap (λ (k : ℕ). take (k + n) (written f ++ l)) (sym (size-is
 pub drop-size : (f : Field) (l : List ℕ) (n : ℕ) → drop (sizeOf f + n) (written f ++ l) ≡ drop n l
 drop-size f l n = ap (λ (k : ℕ). drop (k + n) (written f ++ l)) (sym (size-is f)) ∙ drop-append-add (written f) l n
 
-drop-one : (f : Field) (l : List ℕ) → drop (sizeOf f) (written f ++ l) ≡ l
-drop-one f l = ap (λ (k : ℕ). drop k (written f ++ l)) (sym (size-is f)) ∙ drop-append-seam (written f) l
-
 -- The fields behind a card's address.
 unfoldable pub behindCard : ℕ → List Field → List Field
 behindCard a [] = []
 behindCard a (f ∷ fs) = cond (isCard a f) fs (behindCard a fs)
-
-behind-if : (t : Bool) (f : Field) (fs rest : List Field) (n : ℕ) → drop n (bytesOf fs) ≡ bytesOf rest
-    → drop (cond t (sizeOf f) (sizeOf f + n)) (written f ++ bytesOf fs) ≡ bytesOf (cond t fs rest)
-behind-if true f fs rest n e = drop-one f (bytesOf fs)
-behind-if false f fs rest n e = drop-size f (bytesOf fs) n ∙ e
-
-pub drop-card : (a : ℕ) (fs : List Field) → drop (cardPlace a fs) (bytesOf fs) ≡ bytesOf (behindCard a fs)
-unfolding bytesOf cardPlace behindCard
-drop-card a [] = refl
-drop-card a (f ∷ fs) = behind-if (isCard a f) f fs (behindCard a fs) (cardPlace a fs) (drop-card a fs)
-
-sizes-if : (t : Bool) (fs rest : List Field) → Sizes fs → Sizes rest → Sizes (cond t fs rest)
-sizes-if true fs rest s r = s
-sizes-if false fs rest s r = r
-
-pub sizes-behind : (a : ℕ) (fs : List Field) → Sizes fs → Sizes (behindCard a fs)
-unfolding Sizes behindCard
-sizes-behind a [] s = tt
-sizes-behind a (f ∷ fs) s = sizes-if (isCard a f) fs (behindCard a fs) (s .1) (sizes-behind a fs (s .1))
 
 at-if : (b c : Bool) (fs rest : List Field) (vs : List Version) → versionsFrom 0 rest ≡ vs
     → versionsFrom 0 (cond (b && c) fs rest) ≡ cond b (cond c (versionsFrom 0 fs) vs) vs
@@ -63,3 +40,41 @@ pub versions-behind : (a : ℕ) (fs : List Field) → versionsFrom 0 (behindCard
 unfolding versionsAt behindCard versionsFrom
 versions-behind a [] = refl
 versions-behind a (f ∷ fs) = at-if (eqb (f .tag) 1) (eqb (addressOf (f .value)) a) fs (behindCard a fs) (versionsAt a fs) (versions-behind a fs)
+
+-- In a file: the fields from the place behind a card's address on are those behind the address. The bound falls at each field.
+module _ (a : ℕ) (file : List ℕ) where
+  place-if : (at : ℕ) {tag start len : ℕ} → Stands file at tag start len → (t : Bool)
+      → fieldsOf (drop (start + len + cardPlace a (fieldsOf (drop (start + len) file))) file) ≡ behindCard a (fieldsOf (drop (start + len) file))
+      → fieldsOf (drop (at + cond t (3 + length (take len (drop start file))) (3 + length (take len (drop start file)) + cardPlace a (fieldsOf (drop (start + len) file)))) file)
+      ≡ cond t (fieldsOf (drop (start + len) file)) (behindCard a (fieldsOf (drop (start + len) file)))
+  place-if at {tag} {start} {len} st true on =
+      let n : at + (3 + length (take len (drop start file))) ≡ start + len = omega (arith, st .behindHead, st .size) in
+      ap (λ (k : ℕ). fieldsOf (drop k file)) n
+  place-if at {tag} {start} {len} st false on =
+      let n : at + (3 + length (take len (drop start file)) + cardPlace a (fieldsOf (drop (start + len) file))) ≡ start + len + cardPlace a (fieldsOf (drop (start + len) file)) =
+      omega (arith, st .behindHead, st .size) in
+      ap (λ (k : ℕ). fieldsOf (drop k file)) n ∙ on
+
+  none-behind : (at : ℕ) → fieldsOf (drop at file) ≡ [] → fieldsOf (drop (at + cardPlace a (fieldsOf (drop at file))) file) ≡ behindCard a (fieldsOf (drop at file))
+  unfolding cardPlace behindCard
+  none-behind at e =
+      let z : at + 0 ≡ at = omega arith in
+      ap (λ (fs : List Field). fieldsOf (drop (at + cardPlace a fs) file)) e
+      ∙ ap (λ (k : ℕ). fieldsOf (drop k file)) z
+      ∙ e
+      ∙ ap (behindCard a) (sym e)
+
+  behind-from : (k at : ℕ) → length file - at ≤ k → fieldsOf (drop (at + cardPlace a (fieldsOf (drop at file))) file) ≡ behindCard a (fieldsOf (drop at file))
+  unfolding cardPlace behindCard
+  behind-from zero at h = either-way file at _ (λ tag start len st. absurd (omega (arith, st .fits, st .behindHead))) (λ s. none-behind at (s .none))
+  behind-from (suc k) at h =
+      either-way file at _
+      (λ tag start len st. ap (λ (fs : List Field). fieldsOf (drop (at + cardPlace a fs) file)) (st .isFirst)
+      ∙ place-if at st (isCard a (field tag (take len (drop start file)))) (behind-from k (start + len) (omega (arith, st .fits, st .behindHead)))
+      ∙ ap (behindCard a) (sym (st .isFirst)))
+      (λ s. none-behind at (s .none))
+
+  pub behind-place : fieldsOf (drop (cardPlace a (fieldsOf file)) file) ≡ behindCard a (fieldsOf file)
+  behind-place =
+      let z : cardPlace a (fieldsOf file) ≡ 0 + cardPlace a (fieldsOf file) = omega arith in
+      ap (λ (k : ℕ). fieldsOf (drop k file)) z ∙ behind-from (length file) 0 (omega arith)

@@ -1,27 +1,27 @@
 -- The bytes of an accepted file, the places in it, and the bytes of the changed one.
 -- Assumes nothing.
 use Prim.Native.Nat.{ℕ, _+_, _-_, _/_, _%_, _≤_}
-use mathlib.Core.Path.{_≡_, refl, sym, ap, ap₂, _∙_}
+use mathlib.Core.Path.{_≡_, refl, sym, ap, _∙_}
 use mathlib.Core.Bool.{Bool, true, false, cond, _&&_, _||_, false≢true}
 use mathlib.Core.List.{List, [], _∷_, _++_, append-assoc}
 use native.Mathlib.Omega.{arith}
 use lib.ListN.{length, take, drop, length-append, length-drop}
 use lib.Seq.{take-at, take-append-le, drop-append-le}
 use lib.Dec.{eqb}
-use Rattle.fields.specs.Field.{Field, field, written, bytesOf, fieldsOf}
+use Rattle.fields.specs.Field.{Field, sizeOf, field, written, bytesOf, fieldsOf}
 use Rattle.fields.proofs.Append.{bytes-append}
 use Rattle.catalogue_file.specs.declared.Turn.the-variants.{Begun}
 use Rattle.catalogue_file.specs.Turns.{addressOf}
-use Rattle.catalogue_file.specs.Reading.{catalogue, countField, fileOf, addressesOf, isAmong, read}
+use Rattle.catalogue_file.specs.Reading.{catalogue, countField, fileOf, addressesOf, isAmong, parsed, read}
 use Rattle.catalogue_file.specs.Cards.{versionsFrom, versionsAt}
 use Rattle.catalogue_laws.specs.RoundTrip.{Sizes, WellFormed, Bytes}
 use Rattle.catalogue_laws.proofs.Written.{fields-written, sizes-append}
 use Rattle.catalogue_laws.proofs.Round.{read-is-written}
 use Rattle.catalogue_laws.proofs.Fit.{accepted-is-well-formed}
-use Rattle.catalogue_lookup.proofs.Accepted.{versions-read}
+use Rattle.catalogue_lookup.proofs.Accepted.{versions-parsed}
 use Rattle.changes.specs.Edit.{isCard, withVersion}
-use Rattle.catalogue_places.specs.Places.{sizeOf, cardPlace, cardEnd}
-use Rattle.catalogue_add.proofs.Runs.{behindCard, drop-card, sizes-behind, versions-behind}
+use Rattle.catalogue_places.specs.Places.{cardPlace, cardEnd}
+use Rattle.catalogue_add.proofs.Runs.{behindCard, versions-behind, behind-place}
 use Rattle.catalogue_add.proofs.Insert.{NoCount, in-turn-no-count, version-between, version-count}
 
 -- ---- a place lies before the count
@@ -120,24 +120,17 @@ module _ (file : List ℕ) (fs : List Field) (b : Bytes file) (e : read file ≡
   fields-are = ap fieldsOf (sym whole) ∙ fields-written (fs ++ (countField (length fs) ∷ [])) all-sizes
 
   module _ (a : ℕ) where
-    behind-are : fieldsOf (drop (cardPlace a (fieldsOf file)) file) ≡ behindCard a (fieldsOf file)
-    behind-are =
-        ap₂ (λ (gs : List Field) (l : List ℕ). fieldsOf (drop (cardPlace a gs) l)) fields-are (sym whole)
-        ∙ ap fieldsOf (drop-card a (fs ++ (countField (length fs) ∷ [])))
-        ∙ fields-written (behindCard a (fs ++ (countField (length fs) ∷ []))) (sizes-behind a (fs ++ (countField (length fs) ∷ [])) all-sizes)
-        ∙ ap (behindCard a) (sym fields-are)
-
-    -- The versions behind the card's address are the card's.
-    pub versions-there : versionsFrom 0 (fieldsOf (drop (cardPlace a (fieldsOf file)) file)) ≡ versionsAt a fs
-    versions-there = ap (versionsFrom 0) behind-are ∙ versions-behind a (fieldsOf file) ∙ versions-read file fs e a
-
     -- The end of the card's fields.
     pub end-there : isAmong a (addressesOf fs) ≡ true
         → cardPlace a (fieldsOf file) + cardEnd (fieldsOf (drop (cardPlace a (fieldsOf file)) file)) ≡ cardPlace a fs + cardEnd (behindCard a fs)
     end-there y =
-        ap (λ (gs : List Field). cardPlace a (fieldsOf file) + cardEnd gs) behind-are
+        ap (λ (gs : List Field). cardPlace a (fieldsOf file) + cardEnd gs) (behind-place a file)
         ∙ ap (λ (gs : List Field). cardPlace a gs + cardEnd (behindCard a gs)) fields-are
         ∙ place-tail (length fs % 256 ∷ length fs / 256 ∷ []) a fs y
+
+-- The versions behind the card's address are the card's, in any file whose fields are in turn.
+pub versions-there : (file : List ℕ) (fs : List Field) → parsed file ≡ catalogue fs → (a : ℕ) → versionsFrom 0 (fieldsOf (drop (cardPlace a (fieldsOf file)) file)) ≡ versionsAt a fs
+versions-there file fs e a = ap (versionsFrom 0) (behind-place a file) ∙ versions-behind a (fieldsOf file) ∙ versions-parsed file fs e a
 
 -- ---- the changed file
 

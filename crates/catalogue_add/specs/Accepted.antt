@@ -4,11 +4,12 @@ use Prim.Native.Nat.{ℕ}
 use mathlib.Core.Path.{_≡_}
 use mathlib.Core.List.{List}
 use lib.ListN.{length}
-use Rattle.fields.specs.Field.{Field}
-use Rattle.catalogue_file.specs.Reading.{catalogue, read}
+use Rattle.fields.specs.Field.{Field, fieldsOf}
+use Rattle.catalogue_file.specs.Reading.{catalogue, parsed, addressesOf}
 
--- A file that was accepted, with so many fields before its count: the catalogue that it was read as.
-pub record Accepted (file : List ℕ) (n : ℕ) : Type 0 where
+-- A file whose fields were taken in turn, with so many cards, and so many fields before its count: the catalogue that it has.
+pub record Parsed (file : List ℕ) (cards n : ℕ) : Type 0 where
   pub those : List Field
-  pub isRead : read file ≡ catalogue those
+  pub isParsed : parsed file ≡ catalogue those
+  pub listed : cards ≡ length (addressesOf (fieldsOf file))
   pub many : n ≡ length those

@@ -8,12 +8,12 @@ ghost use Prim.Native.Nat.{_+_, _<_, _≤_};
 ghost use lib.ListN.{length};
 ghost use Rattle.fields.specs.Field.{fieldsOf};
 ghost use Rattle.catalogue_file.specs.Turns.{addressOf};
-ghost use Rattle.catalogue_file.specs.Reading.{addressesOf, isAmong, read};
+ghost use Rattle.catalogue_file.specs.Reading.{addressesOf, isAmong, parsed};
 ghost use Rattle.archive.specs.Archive.{addressIn};
-ghost use Rattle.changes.specs.Edit.{onCatalogue, addedTo, added};
-ghost use Rattle.catalogue_put.specs.Put.{answerOf, areaAfter};
+ghost use Rattle.changes.specs.Edit.{onCatalogue, addedTo};
+ghost use Rattle.catalogue_put.specs.Contracts.{Writes, Adds};
 ghost use Rattle.catalogue_places.specs.Places.{cardPlace};
-ghost use Rattle.catalogue_add.specs.Accepted.{Accepted};
+ghost use Rattle.catalogue_add.specs.Accepted.{Parsed};
 use catalogue_file::Judged;
 use catalogue_lookup::Seek;
 use catalogue_put::Written;
@@ -33,13 +33,16 @@ pub fn address_of(image: &[u8]) -> u64
 
 // A card's first version.
 fn add_card(file: &[u8], cards: usize, fields: usize, image: &[u8], out: &mut [u8]) -> Written
-    requires { ⌜ Accepted (now file) fields × (cards ≡ length (addressesOf (fieldsOf (now file)))) ⌝ }
+    requires { ⌜ Parsed (now file) cards fields ⌝ }
     requires { ⌜ isAmong (addressOf (addressIn (now image))) (addressesOf (fieldsOf (now file))) ≡ false ⌝ }
     requires { ⌜ (length (now image) ≡ 128) × (length (now file) + 145 ≤ length (now out)) ⌝ }
-    ensures { λ r. ⌜ (r ≡ answerOf (onCatalogue (read (now (file .entry))) (addedTo (now (image .entry))))) × (now (out .exit) ≡ areaAfter (onCatalogue (read (now (file .entry))) (addedTo (now (image .entry)))) (now (out .entry))) ⌝ }
+    ensures { λ r. ⌜ Writes (onCatalogue (parsed (now (file .entry))) (addedTo (now (image .entry)))) r (now (out .entry)) (now (out .exit)) ⌝ }
 {
     if (64 <= cards) | (65532 < fields) {
         return Written::Refused(Refusal::NoPlace);
+    }
+    if catalogue_file_code::search::twice(file) {
+        return Written::Refused(Refusal::ListedTwice);
     }
     match eeprom_code::check(image) {
         Checked::Refused(why) => Written::Refused(why),
@@ -60,17 +63,27 @@ fn next_number(last: u16) -> u16
 }
 
 // One more version of the card whose fields begin at a place.
-fn add_version(file: &[u8], at: usize, fields: usize, image: &[u8], out: &mut [u8]) -> Written
-    requires { ⌜ Accepted (now file) fields ⌝ }
+fn add_version(
+    file: &[u8],
+    at: usize,
+    cards: usize,
+    fields: usize,
+    image: &[u8],
+    out: &mut [u8],
+) -> Written
+    requires { ⌜ Parsed (now file) cards fields ⌝ }
     requires { ⌜ isAmong (addressOf (addressIn (now image))) (addressesOf (fieldsOf (now file))) ≡ true ⌝ }
     requires { ⌜ at ≡ cardPlace (addressOf (addressIn (now image))) (fieldsOf (now file)) ⌝ }
     requires { ⌜ (length (now image) ≡ 128) × (length (now file) + 145 ≤ length (now out)) ⌝ }
-    ensures { λ r. ⌜ (r ≡ answerOf (onCatalogue (read (now (file .entry))) (addedTo (now (image .entry))))) × (now (out .exit) ≡ areaAfter (onCatalogue (read (now (file .entry))) (addedTo (now (image .entry)))) (now (out .entry))) ⌝ }
+    ensures { λ r. ⌜ Writes (onCatalogue (parsed (now (file .entry))) (addedTo (now (image .entry)))) r (now (out .entry)) (now (out .exit)) ⌝ }
 {
     let versions = catalogue_places::versions(file, at);
     let last = catalogue_places::last_number(file, at);
-    if (8 <= versions) | ((65535 <= last) | (65533 < fields)) {
+    if (64 < cards) | ((8 <= versions) | ((65535 <= last) | (65533 < fields))) {
         return Written::Refused(Refusal::NoPlace);
+    }
+    if catalogue_file_code::search::twice(file) {
+        return Written::Refused(Refusal::ListedTwice);
     }
     match eeprom_code::check(image) {
         Checked::Refused(why) => Written::Refused(why),
@@ -86,9 +99,9 @@ fn add_version(file: &[u8], at: usize, fields: usize, image: &[u8], out: &mut [u
     }
 }
 
-// Adds a version of the image's card: its latest number plus 1, or 1 for a new card.
+// Adds a version of the image's card: its latest number plus 1, or 1 for a new card. 12, 2, 15, 16, 18, 19, then 8 to 10.
 pub fn add(file: &[u8], image: &[u8], out: &mut [u8]) -> Written
-    ensures { λ r. ⌜ (r ≡ answerOf (added (length (now (out .entry))) (now (file .entry)) (now (image .entry)) (read (now (file .entry))))) × (now (out .exit) ≡ areaAfter (added (length (now (out .entry))) (now (file .entry)) (now (image .entry)) (read (now (file .entry)))) (now (out .entry))) ⌝ }
+    ensures { λ r. ⌜ Adds (now (file .entry)) (now (image .entry)) r (now (out .entry)) (now (out .exit)) ⌝ }
 {
     if out.len() < 145 {
         return Written::Refused(Refusal::ArgumentOutside);
@@ -99,14 +112,14 @@ pub fn add(file: &[u8], image: &[u8], out: &mut [u8]) -> Written
     if image.len() != 128 {
         return Written::Refused(Refusal::LengthOutside);
     }
-    match catalogue_file_code::check(file) {
+    match catalogue_file_code::parse(file) {
         Judged::Refused(why) => Written::Refused(why),
         Judged::Sound { cards, fields } => match catalogue_places::card_place(
             file,
             address_of(image),
         ) {
             Seek::Missing => add_card(file, cards, fields, image, out),
-            Seek::Behind(at) => add_version(file, at, fields, image, out),
+            Seek::Behind(at) => add_version(file, at, cards, fields, image, out),
         },
     }
 }

@@ -1,5 +1,6 @@
 // Makes the calls of the catalogue that its arguments name and prints what each answers, a line each. A call is five
-// words: its name, two operands, the size of the lent area, and the file that has the bytes it is to write; - for none.
+// words: its name, two operands, the size of the lent area (or most, for as much as a file may have), and the file that
+// has the bytes it is to write; - for none.
 ghost use Prim.Native.Nat.{_+_, _<_};
 use catalogue_file::Judged;
 use catalogue_lookup::Hit;
@@ -153,6 +154,12 @@ fn lend(call: &[u8], a: &[u8], b: &[u8], size: u16, result: &[u8]) {
     change(call, a, b, &mut out[..area], result);
 }
 
+// Lends as much as the largest file takes.
+fn lend_most(call: &[u8], a: &[u8], b: &[u8], result: &[u8]) {
+    let mut out = files::room();
+    change(call, a, b, &mut out, result);
+}
+
 fn run(call: &[u8], a: &[u8], b: &[u8], size: &[u8], result: &[u8]) {
     let number = text::version(size);
     if text::same(call, b"check") {
@@ -169,6 +176,10 @@ fn run(call: &[u8], a: &[u8], b: &[u8], size: &[u8], result: &[u8]) {
     }
     if text::same(call, b"lookup") {
         lookup(a, b, size);
+        return;
+    }
+    if text::same(size, b"most") {
+        lend_most(call, a, b, result);
         return;
     }
     lend(call, a, b, number.value, result);

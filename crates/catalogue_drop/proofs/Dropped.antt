@@ -2,21 +2,22 @@
 -- Assumes nothing.
 use Prim.Native.Nat.{ℕ, _+_, _-_, _≤_, _<_}
 use mathlib.Core.Path.{_≡_, refl, sym, ap, ap₂, subst, _∙_}
-use mathlib.Core.Bool.{Bool, true, false, cond}
+use mathlib.Core.Bool.{Bool, true, false, cond, not}
 use mathlib.Core.List.{List}
 use native.Mathlib.Omega.{arith}
-use borrow.Author.Tests.{lt-ltb, le-ltb}
+use borrow.Author.Tests.{lt-ltb, le-ltb, lt-leb, le-leb}
 use lib.ListN.{length, drop}
-use lib.Dec.{ltb}
+use lib.Dec.{ltb, leb}
 use Rattle.refusal.specs.declared.Refusal.{Refusal}
-use Rattle.refusal.specs.declared.Refusal.the-variants.{ArgumentOutside, NoSuchCard}
+use Rattle.refusal.specs.declared.Refusal.the-variants.{ArgumentOutside, NoSuchCard, NoPlace, ListedTwice}
 use Rattle.fields.specs.Field.{Field, fieldsOf}
 use Rattle.catalogue_file.specs.declared.Judged.the-variants.{Sound, Refused}
-use Rattle.catalogue_file.specs.Reading.{Reading, catalogue, refused, addressesOf, isAmong, fileOf, read, judged}
+use Rattle.catalogue_file.specs.Reading.{Reading, catalogue, refused, parsed, addressesOf, isAmong, anyTwice, fileOf, read, judged}
 use Rattle.catalogue_file.specs.Cards.{versionsFrom}
 use Rattle.catalogue_laws.specs.RoundTrip.{Bytes}
 use Rattle.catalogue_lookup.specs.declared.Seek.the-variants as seek
-use Rattle.catalogue_lookup.proofs.Accepted.{addresses-read}
+use Rattle.catalogue_file.proofs.Checked.{is-read}
+use Rattle.catalogue_lookup.proofs.Accepted.{addresses-parsed}
 use Rattle.changes.specs.Edit.{Change, bytes, no, orElse, onCatalogue, withoutVersion, droppedFrom, dropped}
 use Rattle.catalogue_places.specs.Places.{cardPlace, fieldPlace, seekIf}
 use Rattle.catalogue_put.specs.declared.Written.{Written}
@@ -80,71 +81,94 @@ pub settle : {d x : Change} {w : Written} (area : List ℕ) {after : List ℕ} �
     → (w ≡ answerOf d) × (after ≡ areaAfter d area)
 settle area e p q = (p ∙ ap answerOf (sym e), q ∙ ap (λ (y : Change). areaAfter y area) (sym e))
 
--- A file that was judged sound was read as so many fields.
-record Accepted (r : Reading) (n : ℕ) : Type 0 where
+-- A file whose fields were taken in turn has so many cards and fields.
+record Taken (r : Reading) (c n : ℕ) : Type 0 where
   fs : List Field
   are : r ≡ catalogue fs
+  cards : c ≡ length (addressesOf fs)
   many : n ≡ length fs
 
-accepted : (r : Reading) (c n : ℕ) → Sound c n ≡ judged r → Accepted r n
-accepted (catalogue fs) c n e = record { fs = fs; are = refl; many = cc }
-accepted (refused why) c n e = let z : _≡_ {A = ℕ} 0 1 = cc in absurd (omega arith)
+taken : (r : Reading) (c n : ℕ) → Sound c n ≡ judged r → Taken r c n
+taken (catalogue fs) c n e = record { fs = fs; are = refl; cards = cc; many = cc }
+taken (refused why) c n e = let z : _≡_ {A = ℕ} 0 1 = cc in absurd (omega arith)
+
+-- The tests in their order, and the new file behind them.
+abbrev tests : Bool → Bool → Bool → List ℕ → Change
+tests there room twice new = orElse (not there) NoSuchCard (orElse (not room) NoPlace (orElse twice ListedTwice (bytes new)))
 
 module _ (area : ℕ) (file : List ℕ) (a : ℕ) where
-  pub too-short : area < length file → dropped area file a (read file) ≡ no ArgumentOutside
+  pub too-short : area < length file → dropped area file a ≡ no ArgumentOutside
   unfolding dropped
-  too-short h = ap (λ (b : Bool). orElse b ArgumentOutside (onCatalogue (read file) (droppedFrom a))) (lt-ltb area (length file) h)
+  too-short h = ap (λ (b : Bool). orElse b ArgumentOutside (onCatalogue (parsed file) (droppedFrom a))) (lt-ltb area (length file) h)
 
   module _ (fits : length file ≤ area) where
-    judged-so : dropped area file a (read file) ≡ onCatalogue (read file) (droppedFrom a)
+    judged-so : dropped area file a ≡ onCatalogue (parsed file) (droppedFrom a)
     unfolding dropped
-    judged-so = ap (λ (b : Bool). orElse b ArgumentOutside (onCatalogue (read file) (droppedFrom a))) (le-ltb area (length file) fits)
+    judged-so = ap (λ (b : Bool). orElse b ArgumentOutside (onCatalogue (parsed file) (droppedFrom a))) (le-ltb area (length file) fits)
 
     no-file-if : (r : Reading) (why : Refusal) → Refused why ≡ judged r → onCatalogue r (droppedFrom a) ≡ no why
     no-file-if (catalogue fs) why e = let z : _≡_ {A = ℕ} 0 1 = cc in absurd (omega arith)
     no-file-if (refused other) why e = let q : other ≡ why = cc in ap no q
 
-    pub no-file : {why : Refusal} → Refused why ≡ judged (read file) → dropped area file a (read file) ≡ no why
-    no-file {why} e = judged-so ∙ no-file-if (read file) why e
+    pub no-file : {why : Refusal} → Refused why ≡ judged (parsed file) → dropped area file a ≡ no why
+    no-file {why} e = judged-so ∙ no-file-if (parsed file) why e
 
-    module _ {c n : ℕ} (e : Sound c n ≡ judged (read file)) where
-      was : Accepted (read file) n
-      was = accepted (read file) c n e
+    module _ {c n : ℕ} (e : Sound c n ≡ judged (parsed file)) where
+      was : Taken (parsed file) c n
+      was = taken (parsed file) c n e
 
-      found-if : (t : Bool) → isAmong a (addressesOf (fieldsOf file)) ≡ t → dropped area file a (read file) ≡ cond t (bytes (fileOf (withoutVersion a (was .fs)))) (no NoSuchCard)
+      same-cards : addressesOf (fieldsOf file) ≡ addressesOf (was .fs)
+      same-cards = addresses-parsed file (was .fs) (was .are)
+
+      tested : (there room twice : Bool) → isAmong a (addressesOf (fieldsOf file)) ≡ there → leb c 64 ≡ room → anyTwice (addressesOf (fieldsOf file)) ≡ twice
+          → dropped area file a ≡ tests there room twice (fileOf (withoutVersion a (was .fs)))
       unfolding droppedFrom
-      found-if t m =
+      tested there room twice m r t =
           judged-so
-          ∙ ap (λ (r : Reading). onCatalogue r (droppedFrom a)) (was .are)
-          ∙ ap (λ (b : Bool). cond b (bytes (fileOf (withoutVersion a (was .fs)))) (no NoSuchCard))
-          (ap (isAmong a) (sym (addresses-read file (was .fs) (was .are))) ∙ m)
+          ∙ ap (λ (x : Reading). onCatalogue x (droppedFrom a)) (was .are)
+          ∙ ap₂ (λ (x y : Bool). tests x y (anyTwice (addressesOf (was .fs))) (fileOf (withoutVersion a (was .fs))))
+          (ap (isAmong a) (sym same-cards) ∙ m) (ap (λ (k : ℕ). leb k 64) (sym (was .cards)) ∙ r)
+          ∙ ap (λ (x : Bool). tests there room x (fileOf (withoutVersion a (was .fs)))) (ap anyTwice (sym same-cards) ∙ t)
 
       missing-if : (t : Bool) (place : ℕ) → seek.Missing ≡ seekIf t place → t ≡ false
       missing-if true place e = let z : _≡_ {A = ℕ} 0 1 = cc in absurd (omega arith)
       missing-if false place e = refl
 
-      pub no-card : seek.Missing ≡ seekIf (isAmong a (addressesOf (fieldsOf file))) (cardPlace a (fieldsOf file)) → dropped area file a (read file) ≡ no NoSuchCard
-      no-card s = found-if false (missing-if (isAmong a (addressesOf (fieldsOf file))) (cardPlace a (fieldsOf file)) s)
+      pub no-card : seek.Missing ≡ seekIf (isAmong a (addressesOf (fieldsOf file))) (cardPlace a (fieldsOf file)) → dropped area file a ≡ no NoSuchCard
+      no-card s = tested false _ _ (missing-if (isAmong a (addressesOf (fieldsOf file))) (cardPlace a (fieldsOf file)) s) refl refl
 
       behind-if : (t : Bool) (at place : ℕ) → seek.Behind at ≡ seekIf t place → (t ≡ true) × (place ≡ at)
       behind-if true at place e = (refl, cc)
       behind-if false at place e = let z : _≡_ {A = ℕ} 0 1 = cc in absurd (omega arith)
 
-      module _ (b : Bytes file) {at : ℕ} (s : seek.Behind at ≡ seekIf (isAmong a (addressesOf (fieldsOf file))) (cardPlace a (fieldsOf file))) where
+      module _ {at : ℕ} (s : seek.Behind at ≡ seekIf (isAmong a (addressesOf (fieldsOf file))) (cardPlace a (fieldsOf file))) where
         there : (isAmong a (addressesOf (fieldsOf file)) ≡ true) × (cardPlace a (fieldsOf file) ≡ at)
         there = behind-if (isAmong a (addressesOf (fieldsOf file))) at (cardPlace a (fieldsOf file)) s
 
-        among : isAmong a (addressesOf (was .fs)) ≡ true
-        among = ap (isAmong a) (sym (addresses-read file (was .fs) (was .are))) ∙ there .0
+        pub too-many : 64 < c → dropped area file a ≡ no NoPlace
+        too-many h = tested true false _ (there .0) (lt-leb c 64 h) refl
 
-        pub behind-it : Behind file at n
-        behind-it =
-            subst (λ (k : ℕ). Behind file k n) (there .1)
-            (subst (λ (k : ℕ). Behind file (cardPlace a (fieldsOf file)) k) (sym (was .many)) (is-behind a file (was .fs) b (was .are) among))
+        module _ (room : c ≤ 64) {twice : Bool} (t : twice ≡ anyTwice (addressesOf (fieldsOf file))) where
+          pub is-twice : twice ≡ true → dropped area file a ≡ no ListedTwice
+          is-twice y = tested true true true (there .0) (le-leb c 64 room) (sym t ∙ y)
 
-        pub new-so : dropped area file a (read file) ≡ bytes (newFile file at n)
-        new-so =
-            found-if true (there .0)
-            ∙ ap bytes
-            (sym (is-new a file (was .fs) b (was .are) among)
-            ∙ ap₂ (λ (x y : ℕ). newFile file x y) (there .1) (sym (was .many)))
+          -- Behind the tests the file is a sound one.
+          module _ (y : twice ≡ false) (b : Bytes file) where
+            was-sound : read file ≡ catalogue (was .fs)
+            was-sound =
+                is-read file (was .fs) (was .are) (le-leb (length (addressesOf (was .fs))) 64 (omega (arith, was .cards))) (ap anyTwice (sym same-cards) ∙ sym t ∙ y)
+
+            among : isAmong a (addressesOf (was .fs)) ≡ true
+            among = ap (isAmong a) (sym same-cards) ∙ there .0
+
+            pub behind-it : Behind file at n
+            behind-it =
+                subst (λ (k : ℕ). Behind file k n) (there .1)
+                (subst (λ (k : ℕ). Behind file (cardPlace a (fieldsOf file)) k) (sym (was .many)) (is-behind a file (was .fs) b was-sound among))
+
+            pub new-so : dropped area file a ≡ bytes (newFile file at n)
+            new-so =
+                tested true true false (there .0) (le-leb c 64 room) (sym t ∙ y)
+                ∙ ap bytes
+                (sym (is-new a file (was .fs) b was-sound among)
+                ∙ ap₂ (λ (x y : ℕ). newFile file x y) (there .1) (sym (was .many)))

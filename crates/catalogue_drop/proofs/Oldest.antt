@@ -8,7 +8,7 @@ use native.Mathlib.Omega.{arith}
 use borrow.Author.Tests.{eqb-true, not-true}
 use lib.ListN.{length, length-append}
 use lib.Dec.{eqb}
-use Rattle.fields.specs.Field.{Field, field, bytesOf, numberAt}
+use Rattle.fields.specs.Field.{Field, sizeOf, field, bytesOf, numberAt}
 use Rattle.catalogue_file.specs.declared.Turn.{Turn}
 use Rattle.catalogue_file.specs.declared.Turn.the-variants.{Begun, Addressed, Numbered, Imaged, Damaged}
 use Rattle.catalogue_file.specs.Turns.{addressOf, afterAddress, after, isDamaged}
@@ -17,7 +17,7 @@ use Rattle.catalogue_file.specs.Cards.{versionsFrom}
 use Rattle.catalogue_file.proofs.Bools.{and-left, and-right}
 use Rattle.catalogue_laws.specs.RoundTrip.{inTurn}
 use Rattle.changes.specs.Edit.{isCard, withoutImage, withoutOldest, leaves, withoutVersion}
-use Rattle.catalogue_places.specs.Places.{sizeOf, cardPlace, fieldPlace}
+use Rattle.catalogue_places.specs.Places.{cardPlace, fieldPlace}
 
 -- ---- one field in turn
 

@@ -2,27 +2,34 @@
 ghost use mathlib.Core.Path.{_≡_};
 ghost use Prim.Native.Nat.{_+_, _-_, _≤_};
 ghost use lib.ListN.{length};
-ghost use Rattle.catalogue_file.specs.Reading.{read};
-ghost use Rattle.changes.specs.Edit.{dropped};
-ghost use Rattle.catalogue_put.specs.Put.{putAt, answerOf, areaAfter};
+ghost use Rattle.catalogue_put.specs.Put.{putAt};
+ghost use Rattle.catalogue_put.specs.Contracts.{Drops};
 ghost use Rattle.catalogue_drop.specs.Around.{between, around, begins, newFile, InOrder, Behind};
 use catalogue_file::Judged;
 use catalogue_lookup::Seek;
 use catalogue_put::Written;
 use refusal::Refusal;
 
-// Drops a card's oldest version; a card leaves with its last. The unknown fields stay.
+// Drops a card's oldest version; a card leaves with its last. The unknown fields stay. 12, 15, 16, 17, 18, 19.
 pub fn drop_oldest(file: &[u8], address: u64, out: &mut [u8]) -> Written
-    ensures { λ r. ⌜ (r ≡ answerOf (dropped (length (now (out .entry))) (now (file .entry)) address (read (now (file .entry))))) × (now (out .exit) ≡ areaAfter (dropped (length (now (out .entry))) (now (file .entry)) address (read (now (file .entry)))) (now (out .entry))) ⌝ }
+    ensures { λ r. ⌜ Drops (now (file .entry)) address r (now (out .entry)) (now (out .exit)) ⌝ }
 {
     if out.len() < file.len() {
         return Written::Refused(Refusal::ArgumentOutside);
     }
-    match catalogue_file_code::check(file) {
+    match catalogue_file_code::parse(file) {
         Judged::Refused(why) => Written::Refused(why),
-        Judged::Sound { cards: _, fields } => match catalogue_places::card_place(file, address) {
+        Judged::Sound { cards, fields } => match catalogue_places::card_place(file, address) {
             Seek::Missing => Written::Refused(Refusal::NoSuchCard),
-            Seek::Behind(at) => Written::Bytes(drop_behind(file, at, fields, out)),
+            Seek::Behind(at) => {
+                if 64 < cards {
+                    return Written::Refused(Refusal::NoPlace);
+                }
+                if catalogue_file_code::search::twice(file) {
+                    return Written::Refused(Refusal::ListedTwice);
+                }
+                Written::Bytes(drop_behind(file, at, fields, out))
+            }
         },
     }
 }

@@ -1,20 +1,18 @@
 -- The ways through the check behind the walk.
 -- Assumes nothing.
-use Prim.Native.Nat.{ℕ, _+_, _≤_, _<_}
+use Prim.Native.Nat.{ℕ, _≤_, _<_}
 use mathlib.Core.Path.{_≡_, refl, sym, ap, _∙_}
 use mathlib.Core.Bool.{Bool, true, false, cond}
 use mathlib.Core.List.{List, [], _∷_}
 use native.Mathlib.Omega.{arith}
 use borrow.Author.Tests.{le-leb, lt-leb}
 use lib.ListN.{length}
-use lib.Dec.{leb}
 use Rattle.refusal.specs.declared.Refusal.{Refusal}
 use Rattle.refusal.specs.declared.Refusal.the-variants.{NoPlace, ListedTwice}
 use Rattle.fields.specs.Field.{Field, fieldsOf, leftOf}
 use Rattle.catalogue_file.specs.declared.Turn.the-variants.{Begun}
-use Rattle.catalogue_file.specs.declared.Judged.{Judged}
 use Rattle.catalogue_file.specs.declared.Judged.the-variants.{Sound, Refused}
-use Rattle.catalogue_file.specs.Reading.{Reading, catalogue, refused, reading, addressesOf, anyTwice, roomy, read, judged}
+use Rattle.catalogue_file.specs.Reading.{Reading, catalogue, refused, reading, parsed, hasRoom, addressesOf, anyTwice, roomy, read, judged}
 use Rattle.catalogue_file.proofs.Came.{same-addresses}
 
 refused-if : (r : Reading) (why : Refusal) → Refused why ≡ judged r → Refused why ≡ judged (roomy r)
@@ -41,6 +39,14 @@ module _ (gs : List Field) (r : Reading) (same : (fs : List Field) → r ≡ cat
   settled-if (refused other) q c k e h t tw = let s : Sound c k ≡ Refused other = e ∙ ap judged q in let z : _≡_ {A = ℕ} 0 1 = cc in absurd (omega arith)
   settled-if (catalogue fs) q c k e h true tw = ap judged (settled fs q c k e h true tw)
   settled-if (catalogue fs) q c k e h false tw = e ∙ ap judged q ∙ ap judged (settled fs q c k e h false tw)
+
+-- Fields in turn, with room and no address twice, are a sound file.
+pub is-read : (file : List ℕ) (fs : List Field) → parsed file ≡ catalogue fs → hasRoom fs ≡ true → anyTwice (addressesOf fs) ≡ false → read file ≡ catalogue fs
+unfolding read
+is-read file fs e r t =
+    ap roomy e
+    ∙ ap (λ (b : Bool). cond b (cond (anyTwice (addressesOf fs)) (refused ListedTwice) (catalogue fs)) (refused NoPlace)) r
+    ∙ ap (λ (b : Bool). cond b (refused ListedTwice) (catalogue fs)) t
 
 module _ (file : List ℕ) where
   pub is-refused : (why : Refusal) → Refused why ≡ judged (reading Begun 0 (fieldsOf file) (leftOf file)) → Refused why ≡ judged (read file)

@@ -3,3 +3,4 @@ pub mod Turns
 pub mod Reading
 pub mod Cards
 pub mod Walk
+pub mod Contracts

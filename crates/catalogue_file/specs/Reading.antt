@@ -1,7 +1,7 @@
 -- A catalogue's file: how it is read, and how it is written.
 -- A catalogue is the list of its fields before the count, unknown ones in their places.
 -- Assumes nothing.
-use Prim.Native.Nat.{ℕ, zero, suc, _+_, _*_, _/_, _%_}
+use Prim.Native.Nat.{ℕ, _+_, _/_, _%_}
 use mathlib.Core.Bool.{Bool, true, false, cond, _&&_, _||_, not}
 use mathlib.Core.List.{List, [], _∷_, _++_}
 use lib.ListN.{length}
@@ -63,17 +63,23 @@ unfoldable pub anyTwice : List ℕ → Bool
 anyTwice [] = false
 anyTwice (a ∷ those) = isAmong a those || anyTwice those
 
--- At most 64 cards, and no address listed twice.
+-- The fields of a file in their turns, with a right count behind them; 15 or 16 where they are not.
+-- It may still have too many cards or list one twice: 18 and 19 come behind a call's own 17.
+abbrev pub parsed : List ℕ → Reading
+parsed file = reading Begun 0 (fieldsOf file) (leftOf file)
+
+-- At most 64 cards.
+abbrev pub hasRoom : List Field → Bool
+hasRoom fs = leb (length (addressesOf fs)) 64
+
+-- 18 for more cards than that, then 19 for an address that is listed twice.
 abbrev pub roomy : Reading → Reading
-roomy (catalogue fs) =
-    cond (leb (length (addressesOf fs)) 64)
-    (cond (anyTwice (addressesOf fs)) (refused ListedTwice) (catalogue fs))
-    (refused NoPlace)
+roomy (catalogue fs) = cond (hasRoom fs) (cond (anyTwice (addressesOf fs)) (refused ListedTwice) (catalogue fs)) (refused NoPlace)
 roomy (refused why) = refused why
 
--- A file, read.
+-- A file, read: a sound one.
 unfoldable pub read : List ℕ → Reading
-read file = roomy (reading Begun 0 (fieldsOf file) (leftOf file))
+read file = roomy (parsed file)
 
 -- What the check of a file answers: how many cards and fields, or the refusal.
 abbrev pub judged : Reading → Judged

@@ -6,12 +6,21 @@ pub mod search;
 mod turns;
 
 ghost use mathlib.Core.Path.{_≡_};
-ghost use Rattle.catalogue_file.specs.Reading.{read, judged};
+ghost use Rattle.catalogue_file.specs.Reading.{parsed, judged};
+ghost use Rattle.catalogue_file.specs.Contracts.{Checks};
 use refusal::Refusal;
+
+// Takes the fields of a file in their turns, up to the count: 15 or 16 where they are not in order. How many cards there are,
+// and whether one is listed twice, is not judged yet.
+pub fn parse(file: &[u8]) -> Judged
+    ensures { λ r. ⌜ r ≡ judged (parsed (now (file .entry))) ⌝ }
+{
+    turns::walk(file)
+}
 
 // Checks a file of any length.
 pub fn check(file: &[u8]) -> Judged
-    ensures { λ r. ⌜ r ≡ judged (read (now (file .entry))) ⌝ }
+    ensures { λ r. ⌜ Checks (now (file .entry)) r ⌝ }
 {
     match turns::walk(file) {
         Judged::Refused(why) => Judged::Refused(why),

@@ -1,7 +1,10 @@
-// Reads a catalogue's file from standard input and prints `sound`, or `refused ` and the number.
+// Reads a catalogue's file from standard input and prints `sound`, or `refused ` and the number, or that it is too long.
 use catalogue_file::Judged;
 use libc::STDIN_FILENO;
 use libc::STDOUT_FILENO;
+
+// The largest file that is read, as the program `catalogue` has it.
+const ROOM: usize = 262144;
 
 // A number below 100 as two characters, the first a blank where it is below 10.
 fn two(n: u8) -> [u8; 2] {
@@ -13,11 +16,8 @@ fn two(n: u8) -> [u8; 2] {
     [b'0' + high, b'0' + low]
 }
 
-fn main() {
-    // A catalogue of 64 cards with 8 versions each has 70,213 bytes.
-    let mut room = [0u8; 131072];
-    let n = io::read_full(STDIN_FILENO, &mut room);
-    match catalogue_file_code::check(&room[..n]) {
+fn say(judged: Judged) {
+    match judged {
         Judged::Sound {
             cards: _,
             fields: _,
@@ -31,4 +31,15 @@ fn main() {
             io::write_all(STDOUT_FILENO, b"\n");
         }
     }
+}
+
+fn main() {
+    let mut room = [0u8; ROOM];
+    let n = io::read_full(STDIN_FILENO, &mut room);
+    let mut next = [0u8; 1];
+    if 0 < libc::read(STDIN_FILENO, &mut next) {
+        io::write_all(STDOUT_FILENO, b"larger than 262144 bytes\n");
+        return;
+    }
+    say(catalogue_file_code::check(&room[..n]));
 }

@@ -74,11 +74,11 @@ rest-told {nth} {n} turn (next {v = v} {fs = fs} l b r t) s =
 
 -- ---- without the oldest
 
-other-image : (f : Field) (fs : List Field) → Other f → withoutImage (f ∷ fs) ≡ f ∷ withoutImage fs
+pub other-image : (f : Field) (fs : List Field) → Other f → withoutImage (f ∷ fs) ≡ f ∷ withoutImage fs
 unfolding withoutImage
 other-image f fs o = no-if (eqb (f .tag) 3) fs (f ∷ withoutImage fs) (o .three)
 
-other-oldest : (f : Field) (fs : List Field) → Other f → withoutOldest (f ∷ fs) ≡ f ∷ withoutOldest fs
+pub other-oldest : (f : Field) (fs : List Field) → Other f → withoutOldest (f ∷ fs) ≡ f ∷ withoutOldest fs
 unfolding withoutOldest
 other-oldest f fs o = no-if (eqb (f .tag) 2) (withoutImage fs) (f ∷ withoutOldest fs) (o .two)
 
@@ -128,7 +128,7 @@ image-addresses (f ∷ fs) =
     either (λ (l : List Field). addressesOf l ≡ addressesOf (f ∷ fs)) (eqb (f .tag) 3)
     (λ e. no-address 3 f fs e refl) (λ e. same-behind f (withoutImage fs) fs (image-addresses fs))
 
-oldest-addresses : (fs : List Field) → addressesOf (withoutOldest fs) ≡ addressesOf fs
+pub oldest-addresses : (fs : List Field) → addressesOf (withoutOldest fs) ≡ addressesOf fs
 unfolding withoutOldest
 oldest-addresses [] = refl
 oldest-addresses (f ∷ fs) =

@@ -1,7 +1,7 @@
 -- The laws.
-mod Told
-mod Parts
-mod Versions
-mod Drops
+pub mod Told
+pub mod Parts
+pub mod Versions
+pub mod Drops
 pub mod Accepted
 pub mod Files

@@ -26,7 +26,7 @@ pub other-versions : (n : ℕ) (f : Field) (fs : List Field) → Other f → ver
 unfolding versionsFrom
 other-versions n f fs o = no-if (eqb (f .tag) 1) _ _ (o .one) ∙ no-if (eqb (f .tag) 2) _ _ (o .two) ∙ no-if (eqb (f .tag) 3) _ _ (o .three)
 
-other-at : (a : ℕ) (f : Field) (fs : List Field) → Other f → versionsAt a (f ∷ fs) ≡ versionsAt a fs
+pub other-at : (a : ℕ) (f : Field) (fs : List Field) → Other f → versionsAt a (f ∷ fs) ≡ versionsAt a fs
 unfolding versionsAt
 other-at a f fs o = no-if (eqb (f .tag) 1) _ _ (o .one)
 
@@ -137,8 +137,9 @@ module _ (new : ℕ) (bytes : List ℕ) (small : new < 65536) (long : length byt
   card-told address s (next l j h t) = next l j h (card-told address s t)
   card-told address s (image l t) = image l (card-told address s t)
 
-  -- ---- its addresses and its length
+-- ---- its addresses and its length
 
+module _ (new : ℕ) (bytes : List ℕ) where
   end-addresses : (fs : List Field) → addressesOf (atCardsEnd (versionFields new bytes) fs) ≡ addressesOf fs
   unfolding atCardsEnd addressesOf
   end-addresses [] = refl

@@ -1,4 +1,4 @@
--- A catalogue that was added to or dropped from is accepted again.
+-- What a change writes is read as the changed catalogue.
 -- Theorems over the definitions alone.
 -- Assumes nothing.
 use Prim.Native.Nat.{ℕ, _<_}
@@ -9,12 +9,14 @@ use Rattle.fields.specs.Field.{Field}
 use Rattle.catalogue_file.specs.Reading.{catalogue, read}
 use Rattle.catalogue_file.specs.Cards.{versionsAt}
 use Rattle.catalogue_laws.specs.RoundTrip.{WellFormed, Bytes}
-use Rattle.changes.specs.Edit.{bytes, versionFields, withVersion, latestNumber, addedTo, added, droppedFrom, dropped, imported}
+use Rattle.archive.specs.Archive.{movedIn}
+use Rattle.changes.specs.Edit.{bytes, versionFields, withVersion, withAdded, withoutVersion, latestNumber, addedTo, added, droppedFrom, dropped, imagesIn, imported}
 
--- A file that is read as a catalogue.
-pub record IsCatalogue (file : List ℕ) : Type 0 where
-  pub fields : List Field
-  pub accepted : read file ≡ catalogue fields
+-- A file was read as a catalogue, and another is read as that catalogue, changed.
+pub record Becomes (file after : List ℕ) (change : List Field → List Field) : Type 0 where
+  pub those : List Field
+  pub before : read file ≡ catalogue those
+  pub now : read after ≡ catalogue (change those)
 
 -- A card may have one version more, with this number.
 pub record HasRoom (a n : ℕ) (fs : List Field) : Type 0 where
@@ -24,15 +26,15 @@ pub record HasRoom (a n : ℕ) (fs : List Field) : Type 0 where
   pub counted : length fs < 65534
 
 -- Of any catalogue that can be written: with a version more where there is room it can be written still;
--- what an addition writes, a version more or a card more, is read as a catalogue again;
--- and so is what a drop writes, whether the card stays or leaves with its last version.
+-- what an addition writes, a version more or a card more, is read as the catalogue with that addition;
+-- what a drop writes, whether the card stays or leaves with its last version, as the catalogue without it.
 pub record ChangesAreAccepted : Type 0 where
   pub version : (a n : ℕ) (image : List ℕ) (fs : List Field) → WellFormed fs → length image ≡ 128 → HasRoom a n fs → WellFormed (withVersion a (versionFields n image) fs)
-  pub addition : (image : List ℕ) (fs : List Field) (file : List ℕ) → WellFormed fs → length image ≡ 128 → addedTo image fs ≡ bytes file → IsCatalogue file
-  pub drop : (a : ℕ) (fs : List Field) (file : List ℕ) → WellFormed fs → droppedFrom a fs ≡ bytes file → IsCatalogue file
+  pub addition : (image : List ℕ) (fs : List Field) (file : List ℕ) → WellFormed fs → length image ≡ 128 → addedTo image fs ≡ bytes file → read file ≡ catalogue (withAdded image fs)
+  pub drop : (a : ℕ) (fs : List Field) (file : List ℕ) → WellFormed fs → droppedFrom a fs ≡ bytes file → read file ≡ catalogue (withoutVersion a fs)
 
--- The same from file to file: what an addition, a drop, or an archive moved in writes is read as a catalogue again.
-pub record WrittenIsAccepted : Type 0 where
-  pub addition : (area : ℕ) (file image after : List ℕ) → Bytes file → added area file image (read file) ≡ bytes after → IsCatalogue after
-  pub drop : (area : ℕ) (file : List ℕ) (a : ℕ) (after : List ℕ) → Bytes file → dropped area file a (read file) ≡ bytes after → IsCatalogue after
-  pub archive : (area : ℕ) (row after : List ℕ) → imported area row ≡ bytes after → IsCatalogue after
+-- The same from file to file, by the calls: what they write is read as the changed catalogue, and as no other.
+pub record WrittenIsTheChanged : Type 0 where
+  pub addition : (area : ℕ) (file image after : List ℕ) → Bytes file → added area file image ≡ bytes after → Becomes file after (withAdded image)
+  pub drop : (area : ℕ) (file : List ℕ) (a : ℕ) (after : List ℕ) → Bytes file → dropped area file a ≡ bytes after → Becomes file after (withoutVersion a)
+  pub archive : (area : ℕ) (row after : List ℕ) → imported area row ≡ bytes after → read after ≡ catalogue (movedIn (imagesIn row))

@@ -1,18 +1,13 @@
 // The fields of one card.
 ghost use mathlib.Core.Path.{_≡_};
 ghost use mathlib.Core.Bool.{cond};
-ghost use mathlib.Core.List.{List};
 ghost use lib.ListN.{take, drop};
 ghost use lib.Dec.{eqb};
-ghost use Prim.Native.Nat.{ℕ};
 ghost use Rattle.refusal.specs.declared.Refusal.the-variants.{NoSuchCard};
 ghost use Rattle.fields.specs.Field.{fieldsOf, numberAt};
-ghost use Rattle.catalogue_file.specs.Reading.{addressesOf, isAmong};
-ghost use Rattle.catalogue_file.specs.Cards.{versionsFrom, versionsAt};
-ghost use Rattle.catalogue_lookup.specs.Lookup.{none, lastOf, numberedIn, shownAt, shownIn, versionsBehind, isFound};
-ghost use Rattle.catalogue_lookup.specs.declared.Place.the-variants.{At};
-ghost use Rattle.catalogue_lookup.specs.declared.Hit.the-variants.{InOverride, InMain, Nowhere};
-use catalogue_lookup::Hit;
+ghost use Rattle.catalogue_lookup.specs.Lookup.{spotsFrom, spotsAt, lastSpot, numberedSpot};
+ghost use Rattle.catalogue_lookup.specs.Walk.{spotsBehind};
+ghost use Rattle.catalogue_lookup.specs.declared.Place.the-variants.{At, Refused};
 use catalogue_lookup::Place;
 use catalogue_lookup::Seek;
 use fields::Found;
@@ -20,7 +15,7 @@ use refusal::Refusal;
 
 // Where a card's fields begin.
 pub fn find_card(file: &[u8], address: u64) -> Seek
-    ensures { λ r. ⌜ versionsBehind (now (file .entry)) r ≡ versionsAt address (fieldsOf (now (file .entry))) ⌝ }
+    ensures { λ r. ⌜ spotsBehind (now (file .entry)) r ≡ spotsAt address 0 (fieldsOf (now (file .entry))) ⌝ }
 {
     let mut at = 0;
     loop {
@@ -51,7 +46,7 @@ fn newer(best: Place, tag: u8, start: usize, len: usize) -> Place
 
 // The newest image from a place up to the next card.
 pub fn newest(file: &[u8], from: usize) -> Place
-    ensures { λ r. ⌜ shownAt (now (file .entry)) r ≡ lastOf (none NoSuchCard) (versionsFrom 0 (fieldsOf (drop from (now (file .entry))))) ⌝ }
+    ensures { λ r. ⌜ r ≡ lastSpot (Refused NoSuchCard) (spotsFrom from 0 (fieldsOf (drop from (now (file .entry))))) ⌝ }
 {
     let mut best = Place::Refused(Refusal::NoSuchCard);
     let mut at = from;
@@ -73,7 +68,7 @@ pub fn newest(file: &[u8], from: usize) -> Place
 
 // The newest image of a card.
 pub fn newest_at(file: &[u8], address: u64) -> Place
-    ensures { λ r. ⌜ shownAt (now (file .entry)) r ≡ lastOf (none NoSuchCard) (versionsAt address (fieldsOf (now (file .entry)))) ⌝ }
+    ensures { λ r. ⌜ r ≡ lastSpot (Refused NoSuchCard) (spotsAt address 0 (fieldsOf (now (file .entry)))) ⌝ }
 {
     match find_card(file, address) {
         Seek::Missing => Place::Refused(Refusal::NoSuchCard),
@@ -93,7 +88,7 @@ fn due(number: u16, file: &[u8], tag: u8, start: usize, len: usize) -> u16
 
 // The image with a number, from a place up to the next card.
 fn numbered(file: &[u8], from: usize, number: u16) -> Place
-    ensures { λ r. ⌜ shownAt (now (file .entry)) r ≡ numberedIn number (versionsFrom 0 (fieldsOf (drop from (now (file .entry))))) ⌝ }
+    ensures { λ r. ⌜ r ≡ numberedSpot number (spotsFrom from 0 (fieldsOf (drop from (now (file .entry))))) ⌝ }
 {
     let mut told: u16 = 0;
     let mut at = from;
@@ -118,28 +113,10 @@ fn numbered(file: &[u8], from: usize, number: u16) -> Place
 
 // The image of a card with a number.
 pub fn numbered_at(file: &[u8], address: u64, number: u16) -> Place
-    ensures { λ r. ⌜ shownAt (now (file .entry)) r ≡ numberedIn number (versionsAt address (fieldsOf (now (file .entry)))) ⌝ }
+    ensures { λ r. ⌜ r ≡ numberedSpot number (spotsAt address 0 (fieldsOf (now (file .entry)))) ⌝ }
 {
     match find_card(file, address) {
         Seek::Missing => Place::Refused(Refusal::NoSuchCard),
         Seek::Behind(at) => numbered(file, at, number),
-    }
-}
-
-pub fn in_override(found: Place) -> Hit
-    ensures { λ r. ⌜ ((own main : List ℕ) → shownIn own main r ≡ shownAt own found) ⌝ }
-{
-    match found {
-        Place::At { start, len } => Hit::InOverride { start, len },
-        Place::Refused(why) => Hit::Nowhere(why),
-    }
-}
-
-pub fn in_main(found: Place) -> Hit
-    ensures { λ r. ⌜ ((own main : List ℕ) → shownIn own main r ≡ shownAt main found) ⌝ }
-{
-    match found {
-        Place::At { start, len } => Hit::InMain { start, len },
-        Place::Refused(why) => Hit::Nowhere(why),
     }
 }

@@ -7,14 +7,14 @@ use mathlib.Core.List.{List, [], _∷_}
 use native.Mathlib.Omega.{arith}
 use lib.ListN.{length, take, drop}
 use lib.Dec.{eqb}
-use Rattle.fields.specs.Field.{Field, field, fieldsOf}
+use Rattle.fields.specs.Field.{Field, sizeOf, field, fieldsOf}
 use Rattle.fields.proofs.At.{Stands}
 use Rattle.catalogue_file.specs.Turns.{addressOf}
 use Rattle.catalogue_file.specs.Reading.{addressesOf, isAmong}
 use Rattle.catalogue_file.proofs.Seen.{among-hit, among-on, among-none}
 use Rattle.catalogue_lookup.specs.declared.Seek.{Seek}
 use Rattle.catalogue_lookup.specs.declared.Seek.the-variants.{Behind, Missing}
-use Rattle.catalogue_places.specs.Places.{sizeOf, cardPlace, cardEnd, fieldPlace, seekIf}
+use Rattle.catalogue_places.specs.Places.{cardPlace, cardEnd, fieldPlace, seekIf}
 
 -- ---- a place: the sizes of the fields up to one that stops
 

@@ -3,17 +3,11 @@
 use Prim.Native.Nat.{ℕ, _+_}
 use mathlib.Core.Bool.{Bool, true, false, cond, _||_}
 use mathlib.Core.List.{List, [], _∷_}
-use lib.ListN.{length}
 use lib.Dec.{eqb}
-use Rattle.fields.specs.Field.{Field}
-use Rattle.catalogue_file.specs.Reading.{addressesOf, isAmong}
+use Rattle.fields.specs.Field.{Field, sizeOf}
 use Rattle.catalogue_lookup.specs.declared.Seek.{Seek}
 use Rattle.catalogue_lookup.specs.declared.Seek.the-variants.{Behind, Missing}
 use Rattle.changes.specs.Edit.{isCard}
-
--- The bytes that a field takes: tag, length, value.
-abbrev pub sizeOf : Field → ℕ
-sizeOf f = 3 + length (f .value)
 
 -- Up to behind the address of a card.
 unfoldable pub cardPlace : ℕ → List Field → ℕ

@@ -1,8 +1,12 @@
-// What is promised of catalogues: the round trips, and what a change leaves and writes.
+// What is promised of catalogues: the round trips, what a lookup shows, what a change leaves and writes, and how much area suffices.
 ghost use Rattle.catalogue_laws.specs.RoundTrip.{WrittenIsRead, ReadIsWritten, AcceptedIsWellFormed};
+ghost use Rattle.catalogue_lookup.specs.Places.{PlacesShow};
 ghost use Rattle.archive.specs.Archive.{OutAfterIn};
 ghost use Rattle.changes.specs.Unknown.{UnknownFieldsStay};
-ghost use Rattle.catalogue_kept.specs.Kept.{ChangesAreAccepted, WrittenIsAccepted};
+ghost use Rattle.catalogue_kept.specs.Kept.{ChangesAreAccepted, WrittenIsTheChanged};
+ghost use Rattle.catalogue_after.specs.After.{WhatWasAddedIsTheLatest, ADropTakesTheOldest};
+ghost use Rattle.catalogue_area.specs.Area.{AreaSuffices};
+ghost use Rattle.catalogue_fits.specs.Fits.{NothingElseFits};
 
 // Reading what was written gives the same catalogue.
 pub fn written_is_read()
@@ -29,12 +33,40 @@ pub fn unknown_fields_stay()
     ensures { λ r. ⌜ UnknownFieldsStay ⌝ }
 {}
 
-// Of catalogues as fields: what an addition or a drop writes is read as a catalogue again.
+// The places that latest, given and lookup answer are those of the images: of that card's image, and the override's whenever it
+// has the card.
+pub fn places_show()
+    ensures { λ r. ⌜ PlacesShow ⌝ }
+{}
+
+// Of catalogues as fields: what an addition or a drop writes is read as the changed catalogue.
 pub fn changes_are_accepted()
     ensures { λ r. ⌜ ChangesAreAccepted ⌝ }
 {}
 
-// Of files: what an addition to, a drop from, or an archive moved into a catalogue writes is accepted.
-pub fn written_is_accepted()
-    ensures { λ r. ⌜ WrittenIsAccepted ⌝ }
+// Of files: what an addition, a drop or an archive moved in writes is read as the changed catalogue, and as no other.
+pub fn written_is_the_changed()
+    ensures { λ r. ⌜ WrittenIsTheChanged ⌝ }
+{}
+
+// Of the calls: after an addition the image is its card's latest, older versions and all other cards show what they showed.
+pub fn what_was_added_is_the_latest()
+    ensures { λ r. ⌜ WhatWasAddedIsTheLatest ⌝ }
+{}
+
+// Of the calls: a drop takes the oldest version, a card with its last one, and nothing else.
+pub fn a_drop_takes_the_oldest()
+    ensures { λ r. ⌜ ADropTakesTheOldest ⌝ }
+{}
+
+// With 70,358 bytes, and as many more as the unknown fields take, no addition to a sound catalogue and no drop is refused 12; a full
+// catalogue then answers 18.
+pub fn area_suffices()
+    ensures { λ r. ⌜ AreaSuffices ⌝ }
+{}
+
+// Of every call: two results that meet its contract are equal, a refused change touches no byte, and each refusal comes exactly
+// when its test is the first to hold, in the order 12, 2, 15 to 19, 8 to 10.
+pub fn nothing_else_fits()
+    ensures { λ r. ⌜ NothingElseFits ⌝ }
 {}

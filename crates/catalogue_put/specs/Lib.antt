@@ -1,2 +1,3 @@
 -- What the contracts of `catalogue_put` cite.
 pub mod Put
+pub mod Contracts

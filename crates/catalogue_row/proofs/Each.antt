@@ -10,16 +10,11 @@ use lib.ListN.{take, drop}
 use lib.Seq.{drop-drop}
 use lib.Dec.{eqb}
 use Rattle.refusal.specs.declared.Refusal.{Refusal}
-use Rattle.eeprom.specs.declared.Checked as checked
-use Rattle.eeprom.specs.declared.Checked.{Checked}
 use Rattle.eeprom.specs.Image.{checkOf}
 use Rattle.catalogue_file.specs.Turns.{addressOf}
 use Rattle.catalogue_file.specs.Reading.{isAmong, anyTwice}
 use Rattle.archive.specs.Archive.{addressIn, addressesIn}
-use Rattle.changes.specs.Edit.{imagesWithin}
-use Rattle.catalogue_row.specs.declared.images.Row.{Row}
-use Rattle.catalogue_row.specs.declared.images.Row.the-variants.{Sound, Refused}
-use Rattle.catalogue_row.specs.Row.{andThen, soundness}
+use Rattle.changes.specs.Edit.{imagesWithin, isFor, anyFor}
 
 abbrev pub here : List ℕ → ℕ → List ℕ
 here row at = take 128 (drop at row)
@@ -56,9 +51,9 @@ module _ (row : List ℕ) (left : ℕ) (none : left ≤ 0) where
   unfolding addressesIn anyTwice
   none-twice inv = ap (λ (l : List (List ℕ)). anyTwice (addressesIn l)) (sym (no-image row left none)) ∙ inv
 
-  pub none-unsound : {whole : Row} → soundness (imagesWithin left row) ≡ whole → Sound ≡ whole
-  unfolding soundness
-  none-unsound inv = ap soundness (sym (no-image row left none)) ∙ inv
+  pub none-for : (why : Refusal) {whole : Bool} → anyFor why (imagesWithin left row) ≡ whole → false ≡ whole
+  unfolding anyFor
+  none-for why inv = ap (anyFor why) (sym (no-image row left none)) ∙ inv
 
 -- An image is passed.
 module _ (row : List ℕ) (at left : ℕ) (some : 0 < left) where
@@ -91,13 +86,16 @@ module _ (row : List ℕ) (at left : ℕ) (some : 0 < left) where
     pub twice-later : t ≡ false → anyTwice (addressesIn (imagesWithin (left - 1) (drop (at + 128) row))) ≡ whole
     twice-later e = or-no t _ e ∙ twice-step
 
-  module _ {whole : Row} (inv : soundness (imagesWithin left (drop at row)) ≡ whole) where
-    sound-step : andThen (checkOf (here row at)) (soundness (imagesWithin (left - 1) (drop (at + 128) row))) ≡ whole
-    unfolding soundness
-    sound-step = ap soundness (sym (next-image row at left some)) ∙ inv
+  module _ (why : Refusal) (t : Bool) (is : t ≡ isFor why (checkOf (here row at))) {whole : Bool} (inv : anyFor why (imagesWithin left (drop at row)) ≡ whole) where
+    for-step : t || anyFor why (imagesWithin (left - 1) (drop (at + 128) row)) ≡ whole
+    unfolding anyFor
+    for-step =
+        ap (λ (b : Bool). b || anyFor why (imagesWithin (left - 1) (drop (at + 128) row))) is
+        ∙ ap (anyFor why) (sym (next-image row at left some))
+        ∙ inv
 
-    pub unsound-here : (why : Refusal) → checked.the-variants.Refused why ≡ checkOf (here row at) → Refused why ≡ whole
-    unsound-here why e = ap (λ (k : Checked). andThen k (soundness (imagesWithin (left - 1) (drop (at + 128) row)))) e ∙ sound-step
+    pub for-here : t ≡ true → true ≡ whole
+    for-here e = or-yes t _ e ∙ for-step
 
-    pub sound-here : (n0 n1 n2 : ℕ) → checked.the-variants.Sound n0 n1 n2 ≡ checkOf (here row at) → soundness (imagesWithin (left - 1) (drop (at + 128) row)) ≡ whole
-    sound-here n0 n1 n2 e = ap (λ (k : Checked). andThen k (soundness (imagesWithin (left - 1) (drop (at + 128) row)))) e ∙ sound-step
+    pub for-later : t ≡ false → anyFor why (imagesWithin (left - 1) (drop (at + 128) row)) ≡ whole
+    for-later e = or-no t _ e ∙ for-step

@@ -13,7 +13,6 @@ use Rattle.refusal.specs.declared.Refusal.the-variants.{ArgumentOutside}
 use Rattle.fields.specs.Field.{Field, field, numberAt, fieldsOf, leftOf}
 use Rattle.catalogue_file.specs.declared.Turn.{Turn}
 use Rattle.catalogue_file.specs.declared.Turn.the-variants.{Begun, Damaged}
-use Rattle.catalogue_file.specs.declared.Judged.{Judged}
 use Rattle.catalogue_file.specs.declared.Judged.the-variants.{Sound, Refused}
 use Rattle.catalogue_file.specs.Turns.{addressOf, afterAddress, afterNumber, afterImage, after, isDamaged}
 use Rattle.catalogue_file.specs.Reading.{Reading, catalogue, refused, addressesOf, read, judged}
@@ -25,10 +24,11 @@ use Rattle.catalogue_laws.specs.RoundTrip as law
 use Rattle.catalogue_laws.proofs.Fit.{accepted-is-well-formed}
 use Rattle.catalogue_lookup.proofs.Accepted.{from-append, was-read}
 use Rattle.archive.specs.Archive.{rowOf, imagesOf, movedOut}
-use Rattle.changes.specs.Edit.{bytes, no, exported}
+use Rattle.changes.specs.Edit.{onCatalogue, bytes, no, exported}
 use Rattle.catalogue_put.specs.declared.Written as answer
 use Rattle.catalogue_row.specs.Row.{Images}
-use Rattle.catalogue_row.proofs.Ways.{Done, refusing, or-else, or-on}
+use Rattle.catalogue_put.specs.Contracts.{Writes}
+use Rattle.catalogue_row.proofs.Ways.{refusing, or-else, or-on}
 
 -- ---- an image in turn has 128 bytes
 
@@ -74,12 +74,15 @@ cards-append (f ∷ fs) v =
 pub record Fitting (area : ℕ) (file : List ℕ) : Type 0 where
   pub images : Images (fieldsOf file)
   pub few : length (addressesOf (fieldsOf file)) ≤ 64
-  pub is : exported area (read file) ≡ bytes (movedOut (fieldsOf file))
+  pub is : exported area file ≡ bytes (movedOut (fieldsOf file))
 
 module _ (area : ℕ) (room : 8192 ≤ area) where
-  pub exported-fields : (fs : List Field) → exported area (catalogue fs) ≡ bytes (movedOut fs)
+  exported-of : (file : List ℕ) → exported area file ≡ onCatalogue (read file) (λ fs. bytes (movedOut fs))
   unfolding exported
-  exported-fields fs = or-on _ _ _ (le-ltb area 8192 room)
+  exported-of file = or-on _ _ _ (le-ltb area 8192 room)
+
+  pub exported-fields : (file : List ℕ) (fs : List Field) → read file ≡ catalogue fs → exported area file ≡ bytes (movedOut fs)
+  exported-fields file fs e = exported-of file ∙ ap (λ (r : Reading). onCatalogue r (λ fs. bytes (movedOut fs))) e
 
   fitting-if : (file : List ℕ) → law.Bytes file → (r : Reading) → read file ≡ r → (c k : ℕ) → Sound c k ≡ judged r → Fitting area file
   fitting-if file b (refused why) q c k e = let z : _≡_ {A = ℕ} 0 1 = cc in absurd (omega arith)
@@ -91,22 +94,24 @@ module _ (area : ℕ) (room : 8192 ≤ area) where
         images = subst (λ (gs : List Field). Images gs) (sym (m .are)) (images-append fs (m .value) (turn-images Begun fs (w .turns)));
         few = omega (arith, w .cards);
         is =
-            ap (exported area) q ∙ exported-fields fs
+            exported-fields file fs q
             ∙ ap (λ (cards : List Card). bytes (rowOf (imagesOf cards))) (sym (cards-append fs (m .value)) ∙ ap cardsOf (sym (m .are)));
       }
 
   pub fitting : (file : List ℕ) → law.Bytes file → (c k : ℕ) → Sound c k ≡ judged (read file) → Fitting area file
   fitting file b c k e = fitting-if file b (read file) refl c k e
 
-  damaged-if : (r : Reading) (why : Refusal) → Refused why ≡ judged r → exported area r ≡ no why
-  unfolding exported
+  damaged-if : (r : Reading) (why : Refusal) → Refused why ≡ judged r → onCatalogue r (λ fs. bytes (movedOut fs)) ≡ no why
   damaged-if (catalogue fs) why e = let z : _≡_ {A = ℕ} 0 1 = cc in absurd (omega arith)
-  damaged-if (refused other) why e = let q : other ≡ why = cc in or-on _ _ _ (le-ltb area 8192 room) ∙ ap no q
+  damaged-if (refused other) why e = let q : other ≡ why = cc in ap no q
+
+  not-exported : (file : List ℕ) (why : Refusal) → Refused why ≡ judged (read file) → exported area file ≡ no why
+  not-exported file why e = exported-of file ∙ damaged-if (read file) why e
 
 module _ (out file : List ℕ) where
-  pub narrow : length out < 8192 → Done (exported (length out) (read file)) (answer.the-variants.Refused ArgumentOutside) out out
+  pub narrow : length out < 8192 → Writes (exported (length out) file) (answer.the-variants.Refused ArgumentOutside) out out
   unfolding exported
   narrow h = refusing _ _ (or-else _ _ _ (lt-ltb (length out) 8192 h)) out
 
-  pub damaged : 8192 ≤ length out → (why : Refusal) → Refused why ≡ judged (read file) → Done (exported (length out) (read file)) (answer.the-variants.Refused why) out out
-  damaged h why e = refusing _ _ (damaged-if (length out) h (read file) why e) out
+  pub damaged : 8192 ≤ length out → (why : Refusal) → Refused why ≡ judged (read file) → Writes (exported (length out) file) (answer.the-variants.Refused why) out out
+  damaged h why e = refusing _ _ (not-exported (length out) h file why e) out

@@ -14,7 +14,8 @@ use Rattle.fields.specs.Field.{Field, field, numberAt, fieldsOf}
 use Rattle.catalogue_file.specs.Turns.{addressOf}
 use Rattle.catalogue_file.specs.Reading.{addressesOf}
 use Rattle.catalogue_file.specs.Cards.{Version, Card, versionsFrom, cardsOf}
-use Rattle.catalogue_lookup.specs.Lookup.{Shown, image, none, lastOf, bytesIn}
+use Rattle.catalogue_lookup.specs.Lookup.{Shown, image, none, bytesIn}
+use Rattle.catalogue_lookup.specs.Places.{lastOf}
 use Rattle.archive.specs.Archive.{rowOf, latestOf, imagesOf, movedOut}
 use Rattle.catalogue_put.specs.Put.{putAt}
 use Rattle.catalogue_put.proofs.Chain.{length-put, put-on}

@@ -2,22 +2,21 @@
 -- Assumes nothing.
 use Prim.Native.Nat.{ℕ, zero, suc, _+_, _*_, _/_, _%_, _≤_}
 use mathlib.Core.Path.{_≡_, refl, sym, ap, _∙_}
-use mathlib.Core.Bool.{true, false, false≢true}
+use mathlib.Core.Bool.{Bool, true, false, _||_, false≢true}
 use mathlib.Core.List.{List, [], _∷_, _++_}
 use native.Mathlib.Omega.{arith}
 use lib.ListN.{length, take, drop, length-drop, take-append-drop}
 use lib.Seq.{take-at}
+use Rattle.refusal.specs.declared.Refusal.{Refusal}
+use Rattle.refusal.specs.declared.Refusal.the-variants.{MakerWrong, ChecksumWrong, SecondaryWrong}
 use Rattle.eeprom.specs.declared.Checked as checked
 use Rattle.eeprom.specs.declared.Checked.{Checked}
 use Rattle.eeprom.specs.Image.{checkOf}
 use Rattle.catalogue_file.specs.Reading.{catalogue, read, fileOf, anyTwice}
 use Rattle.archive.specs.Archive.{rowOf, movedIn, movedOut, isSound, AllSound, addressesIn, BackAsItCame}
 use Rattle.archive.proofs.OutAfter.{out-after-in}
-use Rattle.changes.specs.Edit.{Change, bytes, imagesWithin, imagesIn, imported, exported}
+use Rattle.changes.specs.Edit.{Change, bytes, imagesWithin, imagesIn, isFor, anyFor, imported, exported}
 use Rattle.catalogue_put.specs.Put.{answerOf, areaAfter}
-use Rattle.catalogue_row.specs.declared.images.Row as answer
-use Rattle.catalogue_row.specs.declared.images.Row.{Row}
-use Rattle.catalogue_row.specs.Row.{andThen, soundness}
 use Rattle.catalogue_row.specs.Back.{outAgain, ComesBack, RowComesBack}
 use Rattle.catalogue_row.proofs.Ways.{sound}
 use Rattle.catalogue_row.proofs.Fitting.{exported-fields}
@@ -36,15 +35,15 @@ unfolding imagesWithin
 count-within zero row = refl
 count-within (suc n) row = ap suc (count-within n (drop 128 row))
 
--- All sound, in the words of the code.
-then-rest : (k : Checked) (rest : Row) → isSound k ≡ true → andThen k rest ≡ rest
-then-rest (checked.the-variants.Sound n0 n1 n2) rest e = refl
-then-rest (checked.the-variants.Refused why) rest e = absurd (false≢true e)
+-- All sound: none is refused for any reason.
+not-for : (why : Refusal) (k : Checked) (rest : Bool) → isSound k ≡ true → rest ≡ false → isFor why k || rest ≡ false
+not-for why (checked.the-variants.Sound n0 n1 n2) rest e h = h
+not-for why (checked.the-variants.Refused other) rest e h = absurd (false≢true e)
 
-sound-row : (images : List (List ℕ)) → AllSound images → soundness images ≡ answer.the-variants.Sound
-unfolding AllSound soundness
-sound-row [] s = refl
-sound-row (image ∷ images) s = then-rest (checkOf image) (soundness images) (s .0) ∙ sound-row images (s .1)
+none-for : (why : Refusal) (images : List (List ℕ)) → AllSound images → anyFor why images ≡ false
+unfolding AllSound anyFor
+none-for why [] s = refl
+none-for why (image ∷ images) s = not-for why (checkOf image) (anyFor why images) (s .0) (none-for why images (s .1))
 
 module _ (row area out : List ℕ) (even : length row % 128 ≡ 0) (few : length row / 128 ≤ 64) (all : AllSound (imagesIn row)) (apart : anyTwice (addressesIn (imagesIn row)) ≡ false)
     (fits : 145 * (length row / 128) + 5 ≤ length area) (room : 8192 ≤ length out) where
@@ -53,7 +52,9 @@ module _ (row area out : List ℕ) (even : length row % 128 ≡ 0) (few : length
 
   goes-in : imported (length area) row ≡ bytes file
   unfolding imagesIn file
-  goes-in = sound area row fits even few false (sym apart) refl (sym (sound-row (imagesIn row) all))
+  goes-in =
+      sound area row fits even few false (sym apart) refl false (sym (none-for MakerWrong (imagesIn row) all)) refl false (sym (none-for ChecksumWrong (imagesIn row) all)) refl false
+      (sym (none-for SecondaryWrong (imagesIn row) all)) refl
 
   back : BackAsItCame (imagesIn row)
   unfolding imagesIn
@@ -69,10 +70,9 @@ module _ (row area out : List ℕ) (even : length row % 128 ≡ 0) (few : length
 
   comes-out : outAgain row area out (length file) ≡ bytes row
   comes-out =
-      ap (λ (c : Change). exported (length out) (read (take (length file) (areaAfter c area)))) goes-in
-      ∙ ap (λ (l : List ℕ). exported (length out) (read l)) (take-at file (drop (length file) area) (length file) refl)
-      ∙ ap (exported (length out)) is-read
-      ∙ exported-fields (length out) room (movedIn (imagesIn row))
+      ap (λ (c : Change). exported (length out) (take (length file) (areaAfter c area))) goes-in
+      ∙ ap (exported (length out)) (take-at file (drop (length file) area) (length file) refl)
+      ∙ exported-fields (length out) room file (movedIn (imagesIn row)) is-read
       ∙ ap bytes is-row
 
   returned : ComesBack row area out

@@ -5,7 +5,7 @@ use mathlib.Core.Path.{_≡_}
 use mathlib.Core.Bool.{false}
 use mathlib.Core.List.{List}
 use lib.ListN.{length, take}
-use Rattle.catalogue_file.specs.Reading.{read, anyTwice}
+use Rattle.catalogue_file.specs.Reading.{anyTwice}
 use Rattle.archive.specs.Archive.{AllSound, addressesIn}
 use Rattle.changes.specs.Edit.{Change, imagesIn, imported, exported}
 use Rattle.catalogue_put.specs.declared.Written.the-variants.{Bytes}
@@ -13,7 +13,7 @@ use Rattle.catalogue_put.specs.Put.{answerOf, areaAfter}
 
 -- The first n bytes that an import left in its area, exported.
 abbrev pub outAgain : List ℕ → List ℕ → List ℕ → ℕ → Change
-outAgain row area out n = exported (length out) (read (take n (areaAfter (imported (length area) row) area)))
+outAgain row area out n = exported (length out) (take n (areaAfter (imported (length area) row) area))
 
 -- The import answers how many bytes its file has; the export of these answers the archive's length and leaves its bytes.
 pub record ComesBack (row area out : List ℕ) : Type 0 where

@@ -5,17 +5,9 @@ ghost use lib.ListN.{length, take, drop};
 ghost use Rattle.catalogue_file.specs.Turns.{addressOf};
 ghost use Rattle.catalogue_file.specs.Reading.{isAmong, anyTwice};
 ghost use Rattle.archive.specs.Archive.{addressIn, addressesIn};
-ghost use Rattle.changes.specs.Edit.{imagesWithin};
-ghost use Rattle.catalogue_row.specs.Row.{soundness};
+ghost use Rattle.changes.specs.Edit.{imagesWithin, isFor, anyFor};
 use eeprom::Checked;
 use refusal::Refusal;
-
-// Whether every image of an archive is sound.
-pub enum Row {
-    Sound,
-    // The first unsound image's number, 8 to 10.
-    Refused(Refusal),
-}
 
 // The node address of the image at a place.
 fn address_in(archive: &[u8], at: usize) -> u64
@@ -68,20 +60,34 @@ pub fn any_twice(archive: &[u8], images: usize) -> bool
     false
 }
 
-// Whether every image is sound.
-pub fn check_all(archive: &[u8], images: usize) -> Row
+// Whether an image was refused for this reason.
+fn is_for(found: Checked, why: Refusal) -> bool
+    ensures { λ r. ⌜ r ≡ isFor why found ⌝ }
+{
+    match found {
+        Checked::Refused(other) => refusal::number(other) == refusal::number(why),
+        Checked::Sound {
+            node0: _,
+            node1: _,
+            node2: _,
+        } => false,
+    }
+}
+
+// Whether one of the images is refused for this reason.
+pub fn any_for(archive: &[u8], images: usize, why: Refusal) -> bool
     requires { ⌜ 128 * images ≤ length (now archive) ⌝ }
-    ensures { λ r. ⌜ r ≡ soundness (imagesWithin images (now (archive .entry))) ⌝ }
+    ensures { λ r. ⌜ r ≡ anyFor why (imagesWithin images (now (archive .entry))) ⌝ }
 {
     let mut at = 0;
     let mut untested = images;
     while 0 < untested {
         let next = at + 128;
-        if let Checked::Refused(why) = eeprom_code::check(&archive[at..next]) {
-            return Row::Refused(why);
+        if is_for(eeprom_code::check(&archive[at..next]), why) {
+            return true;
         }
         at = next;
         untested = untested - 1;
     }
-    Row::Sound
+    false
 }

@@ -3,20 +3,15 @@ mod images;
 mod latest;
 mod moved;
 
-ghost use mathlib.Core.Path.{_≡_};
-ghost use lib.ListN.{length};
-ghost use Rattle.catalogue_file.specs.Reading.{read};
-ghost use Rattle.changes.specs.Edit.{imported, exported};
-ghost use Rattle.catalogue_put.specs.Put.{answerOf, areaAfter};
+ghost use Rattle.catalogue_put.specs.Contracts.{Imports, Exports};
 ghost use Rattle.catalogue_row.specs.Back.{RowComesBack};
 use catalogue_file::Judged;
 use catalogue_put::Written;
-use images::Row;
 use refusal::Refusal;
 
-// Moves an archive in: each image becomes version 1 of its card.
+// Moves an archive in: each image becomes version 1 of its card. 12, 2, 18, 19, then 8 to 10.
 pub fn import(archive: &[u8], out: &mut [u8]) -> Written
-    ensures { λ r. ⌜ (r ≡ answerOf (imported (length (now (out .entry))) (now (archive .entry)))) × (now (out .exit) ≡ areaAfter (imported (length (now (out .entry))) (now (archive .entry))) (now (out .entry))) ⌝ }
+    ensures { λ r. ⌜ Imports (now (archive .entry)) r (now (out .entry)) (now (out .exit)) ⌝ }
 {
     let n = archive.len() / 128;
     if out.len() / 145 < n {
@@ -34,15 +29,22 @@ pub fn import(archive: &[u8], out: &mut [u8]) -> Written
     if images::any_twice(archive, n) {
         return Written::Refused(Refusal::ListedTwice);
     }
-    match images::check_all(archive, n) {
-        Row::Refused(why) => Written::Refused(why),
-        Row::Sound => Written::Bytes(moved::cards(archive, n, out)),
+    // The table's order, and not that of the images.
+    if images::any_for(archive, n, Refusal::MakerWrong) {
+        return Written::Refused(Refusal::MakerWrong);
     }
+    if images::any_for(archive, n, Refusal::ChecksumWrong) {
+        return Written::Refused(Refusal::ChecksumWrong);
+    }
+    if images::any_for(archive, n, Refusal::SecondaryWrong) {
+        return Written::Refused(Refusal::SecondaryWrong);
+    }
+    Written::Bytes(moved::cards(archive, n, out))
 }
 
-// Writes the latest image of each card, in the catalogue's order.
+// Writes the latest image of each card, in the catalogue's order. 12, 15, 16, 18, 19.
 pub fn export(file: &[u8], out: &mut [u8]) -> Written
-    ensures { λ r. ⌜ (r ≡ answerOf (exported (length (now (out .entry))) (read (now (file .entry))))) × (now (out .exit) ≡ areaAfter (exported (length (now (out .entry))) (read (now (file .entry)))) (now (out .entry))) ⌝ }
+    ensures { λ r. ⌜ Exports (now (file .entry)) r (now (out .entry)) (now (out .exit)) ⌝ }
 {
     if out.len() < 8192 {
         return Written::Refused(Refusal::ArgumentOutside);

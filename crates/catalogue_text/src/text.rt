@@ -1,8 +1,8 @@
 // What the program says, answers on standard output and messages on standard error, and the words that it reads.
+ghost use Prim.Native.Nat.{_≤_};
 use fields::Found;
 use libc::STDERR_FILENO;
 use libc::STDOUT_FILENO;
-use refusal::Refusal;
 
 // Answers whether it was written.
 pub fn tell(text: &[u8]) -> bool {
@@ -11,6 +11,14 @@ pub fn tell(text: &[u8]) -> bool {
 
 pub fn warn(text: &[u8]) {
     io::write_all(STDERR_FILENO, text);
+}
+
+pub fn warn_number(n: usize) {
+    io::print_decimal(STDERR_FILENO, n as u64);
+}
+
+pub fn warn_address(address: u64) {
+    hex(STDERR_FILENO, address, 12);
 }
 
 // Says so where standard output did not take all.
@@ -24,17 +32,35 @@ pub fn usage() {
     warn(b"usage: catalogue list FILE\n");
     warn(b"       catalogue check FILE\n");
     warn(b"       catalogue show FILE ADDRESS [VERSION]\n");
+    warn(b"       catalogue diff FILE ADDRESS VERSION VERSION\n");
+    warn(b"       catalogue lookup OVERRIDE FILE ADDRESS\n");
     warn(b"       catalogue add FILE IMAGE\n");
     warn(b"       catalogue drop FILE ADDRESS\n");
-    warn(b"       catalogue import ARCHIVE FILE\n");
-    warn(b"       catalogue export FILE ARCHIVE\n");
+    warn(b"       catalogue import ARCHIVE FILE [--replace]\n");
+    warn(b"       catalogue export FILE ARCHIVE [--replace]\n");
     warn(b"ADDRESS has twelve hexadecimal digits; VERSION is a number from 0 to 65535.\n");
+    warn(b"- stands for standard input or output; a file of that name is ./-.\n");
+    warn(b"--replace writes over what stands there; a file of that name is ./--replace.\n");
+}
+
+// Whether a file's name means standard input or output.
+pub fn is_dash(path: &[u8]) -> bool {
+    same(path, b"-")
+}
+
+// The name of a file that is read.
+pub fn source(path: &[u8]) {
+    if is_dash(path) {
+        warn(b"standard input");
+        return;
+    }
+    warn(path);
 }
 
 pub fn larger(path: &[u8], room: usize) {
-    warn(path);
+    source(path);
     warn(b": larger than ");
-    io::print_decimal(STDERR_FILENO, room as u64);
+    warn_number(room);
     warn(b" bytes\n");
 }
 
@@ -48,23 +74,21 @@ pub fn link(path: &[u8]) {
     warn(b": a symbolic link; name the file that it leads to\n");
 }
 
-// What was refused, and its number.
-pub fn refused(why: Refusal) {
-    warn(b"refused ");
-    io::print_decimal(STDERR_FILENO, refusal::number(why) as u64);
-    match why {
-        Refusal::LengthOutside => warn(b": not 128 bytes to an image\n"),
-        Refusal::MakerWrong => warn(b": word 07h of an image is not 6D50h\n"),
-        Refusal::ChecksumWrong => warn(b": word 0Fh of an image is not the checksum\n"),
-        Refusal::SecondaryWrong => warn(b": word 17h of an image is not the secondary checksums\n"),
-        Refusal::ArgumentOutside => warn(b": no room to write the changed file\n"),
-        Refusal::FieldDamaged => warn(b": a field is damaged\n"),
-        Refusal::FileEndsEarly => warn(b": the file ends early\n"),
-        Refusal::NoSuchCard => warn(b": no such card or version\n"),
-        Refusal::NoPlace => warn(b": no room for a card, version or number\n"),
-        Refusal::ListedTwice => warn(b": an address is listed twice\n"),
-        _ => warn(b"\n"),
-    }
+pub fn stands(path: &[u8]) {
+    warn(path);
+    warn(b": stands already; --replace writes over it\n");
+}
+
+pub fn catalogue_stands(path: &[u8]) {
+    warn(path);
+    warn(b": a catalogue stands there; --replace writes over it\n");
+}
+
+pub fn locked(path: &[u8]) {
+    warn(path);
+    warn(b".lock: stands already; another program is changing ");
+    warn(path);
+    warn(b" (if none is, remove it)\n");
 }
 
 pub fn sound(cards: usize, fields: usize) {
@@ -76,6 +100,27 @@ pub fn sound(cards: usize, fields: usize) {
     told(whole);
 }
 
+// The version that a card got.
+pub fn added(number: u16, address: u64) {
+    let mut whole = tell(b"version ");
+    whole = io::print_decimal(STDOUT_FILENO, number as u64) & whole;
+    whole = tell(b" of ") & whole;
+    whole = hex(STDOUT_FILENO, address, 12) & whole;
+    whole = tell(b"\n") & whole;
+    told(whole);
+}
+
+// A word of an image that another image has otherwise.
+pub fn changed(word: usize, old: u16, new: u16) -> bool {
+    let mut whole = tell(b"word ");
+    whole = hex(STDOUT_FILENO, word as u64, 2) & whole;
+    whole = tell(b": ") & whole;
+    whole = hex(STDOUT_FILENO, old as u64, 4) & whole;
+    whole = tell(b" -> ") & whole;
+    whole = hex(STDOUT_FILENO, new as u64, 4) & whole;
+    tell(b"\n") & whole
+}
+
 fn hex_digit(d: u8) -> u8 {
     if d < 10 {
         return 48 + d;
@@ -83,17 +128,20 @@ fn hex_digit(d: u8) -> u8 {
     55 + d % 16
 }
 
-// Twelve upper-case hexadecimal digits.
-fn hex(address: u64) -> bool {
+// Upper-case hexadecimal digits, as many as asked, of the number's low end.
+pub fn hex(fd: i32, number: u64, width: usize) -> bool
+    requires { ⌜ width ≤ 12 ⌝ }
+{
     let mut digits = [48u8; 12];
-    let mut left = address;
+    let mut left = number;
     let mut at = 12;
     while 0 < at {
         at = at - 1;
         digits[at] = hex_digit((left % 16) as u8);
         left = left / 16;
     }
-    tell(&digits)
+    let first = 12 - width;
+    io::write_all(fd, &digits[first..])
 }
 
 // A card to a line: its address, and the numbers of its versions.
@@ -115,7 +163,12 @@ pub fn cards(file: &[u8]) {
                     if some {
                         whole = tell(b"\n") & whole;
                     }
-                    whole = hex(catalogue_file_code::search::address_at(file, start, len)) & whole;
+                    whole = hex(
+                        STDOUT_FILENO,
+                        catalogue_file_code::search::address_at(file, start, len),
+                        12,
+                    )
+                        & whole;
                     some = true;
                 }
                 if tag == 2 {

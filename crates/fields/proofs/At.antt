@@ -7,7 +7,6 @@ use mathlib.Core.List.{List, [], _∷_}
 use native.Mathlib.Omega.{arith}
 use lib.ListN.{length, getD, take, drop, length-drop, length-take}
 use lib.Seq.{getD-drop, drop-drop}
-use Rattle.fields.specs.declared.Found.{Found}
 use Rattle.fields.specs.declared.Found.the-variants.{Whole, Cut}
 use Rattle.fields.specs.Field.{Field, field, numberAt, isWhole, first, behind, fieldsOf, leftOf, foundIf, foundAt}
 use Rattle.fields.proofs.Runs.{whole-fits, is-whole, is-cut, fields-step, left-step, fields-stop, left-stop}
@@ -81,3 +80,12 @@ stops-if file at false w e = record { none = fields-stop (drop at file) w; rest 
 
 pub stops : {file : List ℕ} {at : ℕ} → Cut ≡ foundAt file at → Stops file at
 stops {file} {at} e = stops-if file at (isWhole (drop at file)) refl e
+
+-- A whole field, or none.
+module _ (file : List ℕ) (at : ℕ) (P : Type 0) (whole : (tag start len : ℕ) → Stands file at tag start len → P) (end : Stops file at → P) where
+  by-whole : (b : Bool) → isWhole (drop at file) ≡ b → P
+  by-whole true w = whole _ _ _ (stands {file = file} {at = at} (sym (ap (λ (b : Bool). foundIf b (drop at file) at) w)))
+  by-whole false w = end (stops {file = file} {at = at} (sym (ap (λ (b : Bool). foundIf b (drop at file) at) w)))
+
+  pub either-way : P
+  either-way = by-whole (isWhole (drop at file)) refl

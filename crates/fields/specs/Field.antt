@@ -19,6 +19,10 @@ field t v = record { tag = t; value = v }
 abbrev pub written : Field → List ℕ
 written f = f .tag ∷ length (f .value) % 256 ∷ length (f .value) / 256 ∷ f .value
 
+-- How many bytes a field takes: tag, length, value.
+abbrev pub sizeOf : Field → ℕ
+sizeOf f = 3 + length (f .value)
+
 -- The bytes of fields, one after the other.
 unfoldable pub bytesOf : List Field → List ℕ
 bytesOf [] = []

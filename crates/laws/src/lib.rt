@@ -1,1 +1,1 @@
-// Laws of Bool tests and of lists that several crates cite; no code.
+// Laws of Bool tests, of lists and of lent structs that several crates cite; no code.

@@ -3,7 +3,7 @@
 use mathlib.Core.Path.{sym, _∙_}
 use native.Mathlib.Omega.{arith}
 use Rattle.fields.specs.Field.{fieldsOf}
-use Rattle.catalogue_add.proofs.Choice.{short, wrong-length, damaged, goes-on, accepted, cards-are, card-missing, card-found, found-place}
+use Rattle.catalogue_add.proofs.Choice.{short, wrong-length, damaged, goes-on, was-parsed, card-missing, card-found, found-place}
 use borrow.Author.Needs.{needs}
 use Rattle.catalogue_add.proofs.add.Statement.{statement}
 use Rattle.catalogue_add.proofs.add.Tie as tie
@@ -20,8 +20,8 @@ returns-2 c = short (c .before .before .before .before .before .args .file .now)
 returns-3 : tie.Need-returns-3
 returns-3 c = wrong-length (c .before .before .before .before .before .before .args .file .now) (c .before .before .before .before .before .before .args .image .now) (c .before .before .before .before .before .before .args .out .now) (omega arith) (c .if3 .taken)
 
-check-requires : tie.Need-check-requires
-check-requires c κs = search needs
+parse-requires : tie.Need-parse-requires
+parse-requires c κs = search needs
 
 enum-known-why : tie.Need-enum-known-why
 enum-known-why c = search needs
@@ -39,25 +39,16 @@ enum-told : tie.Need-enum-told
 enum-told c = search needs
 
 add-card-requires : tie.Need-add-card-requires
-add-card-requires c κs = (
-  (accepted (c .before .before .before .before .before .before .before .before .before .before .before .before .before .before .before .args .file .now) _ _ (sym (c .before .before .before .before .before .before .cards .given .1) ∙ c .before .before .before .before .before .before .before .before .check .ensures), cards-are (c .before .before .before .before .before .before .before .before .before .before .before .before .before .before .before .args .file .now) _ _ (sym (c .before .before .before .before .before .before .cards .given .1) ∙ c .before .before .before .before .before .before .before .before .check .ensures)),
-  (card-missing (fieldsOf (c .before .before .before .before .before .before .before .before .before .before .before .before .before .before .before .args .file .now)) (c .before .before .before .before .before .before .before .before .before .before .before .before .before .before .before .args .image .now) (c .before .before .before .before .address-of .ensures) (sym (c .before .enum-told .given .1) ∙ c .before .before .before .card-place .ensures), (c .before .before .before .before .before .before .before .before .before .if3 .left, omega arith)),
-)
+add-card-requires c κs = (was-parsed (c .before .before .before .before .before .before .before .before .before .before .before .before .before .before .before .args .file .now) _ _ (sym (c .before .before .before .before .before .before .cards .given .1) ∙ c .before .before .before .before .before .before .before .before .parse .ensures), (card-missing (fieldsOf (c .before .before .before .before .before .before .before .before .before .before .before .before .before .before .before .args .file .now)) (c .before .before .before .before .before .before .before .before .before .before .before .before .before .before .before .args .image .now) (c .before .before .before .before .address-of .ensures) (sym (c .before .enum-told .given .1) ∙ c .before .before .before .card-place .ensures), (c .before .before .before .before .before .before .before .before .before .if3 .left, omega arith)))
 
 enum-known-at : tie.Need-enum-known-at
 enum-known-at c = search needs
 
 add-version-requires : tie.Need-add-version-requires
-add-version-requires c κs = (
-  accepted (c .before .before .before .before .before .before .before .before .before .before .before .before .before .before .before .before .args .file .now) _ _ (sym (c .before .before .before .before .before .before .before .cards .given .1) ∙ c .before .before .before .before .before .before .before .before .before .check .ensures),
-  (
-    card-found (fieldsOf (c .before .before .before .before .before .before .before .before .before .before .before .before .before .before .before .before .args .file .now)) (c .before .before .before .before .before .before .before .before .before .before .before .before .before .before .before .before .args .image .now) (c .before .before .before .before .before .address-of .ensures) (sym (c .before .before .at .given .1) ∙ c .before .before .before .before .card-place .ensures),
-    (found-place (fieldsOf (c .before .before .before .before .before .before .before .before .before .before .before .before .before .before .before .before .args .file .now)) (c .before .before .before .before .before .before .before .before .before .before .before .before .before .before .before .before .args .image .now) (c .before .before .before .before .before .address-of .ensures) (sym (c .before .before .at .given .1) ∙ c .before .before .before .before .card-place .ensures), (c .before .before .before .before .before .before .before .before .before .before .if3 .left, omega arith)),
-  ),
-)
+add-version-requires c κs = (was-parsed (c .before .before .before .before .before .before .before .before .before .before .before .before .before .before .before .before .args .file .now) _ _ (sym (c .before .before .before .before .before .before .before .cards .given .1) ∙ c .before .before .before .before .before .before .before .before .before .parse .ensures), (card-found (fieldsOf (c .before .before .before .before .before .before .before .before .before .before .before .before .before .before .before .before .args .file .now)) (c .before .before .before .before .before .before .before .before .before .before .before .before .before .before .before .before .args .image .now) (c .before .before .before .before .before .address-of .ensures) (sym (c .before .before .at .given .1) ∙ c .before .before .before .before .card-place .ensures), (found-place (fieldsOf (c .before .before .before .before .before .before .before .before .before .before .before .before .before .before .before .before .args .file .now)) (c .before .before .before .before .before .before .before .before .before .before .before .before .before .before .before .before .args .image .now) (c .before .before .before .before .before .address-of .ensures) (sym (c .before .before .at .given .1) ∙ c .before .before .before .before .card-place .ensures), (c .before .before .before .before .before .before .before .before .before .before .if3 .left, omega arith))))
 
 returns-4 : tie.Need-returns-4
-returns-4 c = damaged (c .before .before .before .before .before .before .before .before .before .before .args .file .now) (c .before .before .before .before .before .before .before .before .before .before .args .image .now) (c .before .before .before .before .before .before .before .before .before .before .args .out .now) (omega arith) (c .before .before .before .before .if3 .left) _ (sym (c .before .why .given .1) ∙ c .before .before .before .check .ensures)
+returns-4 c = damaged (c .before .before .before .before .before .before .before .before .before .before .args .file .now) (c .before .before .before .before .before .before .before .before .before .before .args .image .now) (c .before .before .before .before .before .before .before .before .before .before .args .out .now) (omega arith) (c .before .before .before .before .if3 .left) _ (sym (c .before .why .given .1) ∙ c .before .before .before .parse .ensures)
 
 same-length : tie.Need-same-length
 same-length c = search needs
@@ -79,7 +70,7 @@ add-spec =
     sub-if2
     returns-2
     returns-3
-    check-requires
+    parse-requires
     enum-known-why
     enum-known-cards
     address-of-requires

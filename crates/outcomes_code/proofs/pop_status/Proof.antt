@@ -1,4 +1,4 @@
--- `outcomes_code::pop_status` meets its contract: a walk of its MIR. The group is copied to a local, the field's cell is taken out of the local's and lent to `pop` for a lifetime that is made for the call (`Lent.antt`), comes back at what `pop` left there, and goes back into the local's cell, which is returned.
+-- `outcomes_code::pop_status` meets its contract: a walk of its MIR. The group is copied to a local, the field's cell is taken out of the local's and lent to `pop` for a lifetime that is made for the call (`laws`, `Lent.antt`), comes back at what `pop` left there, and goes back into the local's cell, which is returned.
 -- All that the walk knows of `pop` is that it meets its contract. Made by tools/walk-statuses. Assumes nothing.
 use mathlib.Core.Path.{refl, sym, ap, subst}
 use Prim.Native.Nat.{ℕ}
@@ -41,7 +41,7 @@ use denote.Exit.{yes}
 use Rattle.statuses.specs.Stack.{stack, Few, Stacks, rest}
 use Rattle.statuses.specs.declared.Statuses.{Statuses}
 use Rattle.outcomes.specs.declared.Outcomes.{Outcomes}
-use Rattle.outcomes_code.proofs.Lent.{lends, back}
+use Rattle.laws.proofs.Lent.{lends, back}
 use Rattle.statuses.proofs.Statuses as T
 use Rattle.statuses.proofs.Statuses.Laws as T′
 use Rattle.outcomes.proofs.Outcomes as K

@@ -1,28 +1,28 @@
 -- `catalogue_lookup_code::walk::newest` meets its contract. The invariant: the newest image of what is left, else the best so far, is the newest of all.
 -- The measure is what is left of the file.
 -- Assumes nothing.
-use Prim.Native.Nat.{ℕ, _+_, _-_}
+use Prim.Native.Nat.{ℕ, _-_}
 use native.Mathlib.Omega.{arith}
 use mathlib.Core.Path.{_≡_, sym, _∙_}
 use lib.ListN.{length, drop}
 use Rattle.refusal.specs.declared.Refusal.the-variants.{NoSuchCard}
 use Rattle.fields.specs.Field.{fieldsOf}
 use Rattle.fields.proofs.At.{stands, stops}
-use Rattle.catalogue_file.specs.Cards.{versionsFrom}
-use Rattle.catalogue_lookup.specs.Lookup.{none, lastOf, shownAt}
-use Rattle.catalogue_lookup.proofs.Versions.{any-number, newest-on, newest-end, newest-none}
+use Rattle.catalogue_lookup.specs.declared.Place.the-variants.{Refused}
+use Rattle.catalogue_lookup.specs.Lookup.{spotsFrom, lastSpot}
+use Rattle.catalogue_lookup.proofs.Spots.{any-number, newest-on, newest-end, newest-none}
 use borrow.Author.Needs.{needs}
 use Rattle.catalogue_lookup_code.proofs.walk.newest.Statement.{statement}
 use Rattle.catalogue_lookup_code.proofs.walk.newest.Tie as tie
 
 abbrev Inv-loop : tie.InvT-loop
-Inv-loop file from best₀ at₀ best at = (n : ℕ) → lastOf (shownAt file best) (versionsFrom n (fieldsOf (drop at file))) ≡ lastOf (none NoSuchCard) (versionsFrom 0 (fieldsOf (drop from file)))
+Inv-loop file from best₀ at₀ best at = (n : ℕ) → lastSpot best (spotsFrom at n (fieldsOf (drop at file))) ≡ lastSpot (Refused NoSuchCard) (spotsFrom from 0 (fieldsOf (drop from file)))
 
 abbrev μ-loop : tie.MeasureT-loop
 μ-loop file from best₀ at₀ best at = length file - at
 
 loop-holds : tie.Need-loop-holds Inv-loop μ-loop
-loop-holds c = λ n. any-number _ n 0 (none NoSuchCard)
+loop-holds c = λ n. any-number _ _ n 0 (Refused NoSuchCard)
 
 field-at-requires : tie.Need-field-at-requires Inv-loop μ-loop
 field-at-requires c κs = search needs
@@ -31,7 +31,7 @@ enum-told : tie.Need-enum-told Inv-loop μ-loop
 enum-told c = search needs
 
 returns : tie.Need-returns Inv-loop μ-loop
-returns c = newest-none (c .before .before .before .before .before .args .file .now) (drop (c .before .before .before .loop .at) (c .before .before .before .before .before .args .file .now)) (c .before .before .before .loop .best) _ (stops {file = c .before .before .before .before .before .args .file .now} {at = c .before .before .before .loop .at} (sym (c .enum-told .given .1) ∙ c .before .before .field-at .ensures) .none) (c .before .before .before .loop .inv)
+returns c = newest-none (c .before .before .before .loop .at) (drop (c .before .before .before .loop .at) (c .before .before .before .before .before .args .file .now)) (c .before .before .before .loop .best) _ (stops {file = c .before .before .before .before .before .args .file .now} {at = c .before .before .before .loop .at} (sym (c .enum-told .given .1) ∙ c .before .before .field-at .ensures) .none) (c .before .before .before .loop .inv)
 
 enum-known-tag : tie.Need-enum-known-tag Inv-loop μ-loop
 enum-known-tag c = search needs

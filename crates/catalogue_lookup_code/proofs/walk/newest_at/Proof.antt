@@ -2,7 +2,9 @@
 -- Assumes nothing.
 use mathlib.Core.Path.{sym, ap, _∙_}
 use Rattle.refusal.specs.declared.Refusal.the-variants.{NoSuchCard}
-use Rattle.catalogue_lookup.specs.Lookup.{none, lastOf, versionsBehind}
+use Rattle.catalogue_lookup.specs.declared.Place.the-variants.{Refused}
+use Rattle.catalogue_lookup.specs.Lookup.{lastSpot}
+use Rattle.catalogue_lookup.specs.Walk.{spotsBehind}
 use borrow.Author.Needs.{needs}
 use Rattle.catalogue_lookup_code.proofs.walk.newest_at.Statement.{statement}
 use Rattle.catalogue_lookup_code.proofs.walk.newest_at.Tie as tie
@@ -20,11 +22,11 @@ newest-requires : tie.Need-newest-requires
 newest-requires c κs = search needs
 
 returns : tie.Need-returns
-unfolding lastOf
-returns c = ap (lastOf (none NoSuchCard)) (ap (versionsBehind (c .before .before .before .before .args .file .now)) (sym (c .enum-told .given .1)) ∙ c .before .before .find-card .ensures)
+unfolding lastSpot
+returns c = ap (lastSpot (Refused NoSuchCard)) (ap (spotsBehind (c .before .before .before .before .args .file .now)) (sym (c .enum-told .given .1)) ∙ c .before .before .find-card .ensures)
 
 returns-2 : tie.Need-returns-2
-returns-2 c = c .newest .ensures ∙ ap (lastOf (none NoSuchCard)) (ap (versionsBehind (c .before .before .before .before .before .before .args .file .now)) (sym (c .before .before .at .given .1)) ∙ c .before .before .before .before .find-card .ensures)
+returns-2 c = c .newest .ensures ∙ ap (lastSpot (Refused NoSuchCard)) (ap (spotsBehind (c .before .before .before .before .before .before .args .file .now)) (sym (c .before .before .at .given .1)) ∙ c .before .before .before .before .find-card .ensures)
 
 pub newest-at-spec : {M : Type 1} → statement M
 newest-at-spec =

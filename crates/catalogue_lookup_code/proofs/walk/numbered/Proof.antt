@@ -1,21 +1,20 @@
 -- `catalogue_lookup_code::walk::numbered` meets its contract. The invariant: the image with the number is that of what is left, behind the number told last.
 -- The measure is what is left of the file.
 -- Assumes nothing.
-use Prim.Native.Nat.{_+_, _-_}
+use Prim.Native.Nat.{_-_}
 use native.Mathlib.Omega.{arith}
 use mathlib.Core.Path.{_≡_, sym, _∙_}
 use lib.ListN.{length, drop}
 use Rattle.fields.specs.Field.{fieldsOf}
 use Rattle.fields.proofs.At.{stands, stops}
-use Rattle.catalogue_file.specs.Cards.{versionsFrom}
-use Rattle.catalogue_lookup.specs.Lookup.{numberedIn}
-use Rattle.catalogue_lookup.proofs.Versions.{numbered-none, numbered-end, numbered-hit, numbered-on}
+use Rattle.catalogue_lookup.specs.Lookup.{spotsFrom, numberedSpot}
+use Rattle.catalogue_lookup.proofs.Spots.{numbered-none, numbered-end, numbered-hit, numbered-on}
 use borrow.Author.Needs.{needs}
 use Rattle.catalogue_lookup_code.proofs.walk.numbered.Statement.{statement}
 use Rattle.catalogue_lookup_code.proofs.walk.numbered.Tie as tie
 
 abbrev Inv-loop : tie.InvT-loop
-Inv-loop file from number told₀ at₀ told at = numberedIn number (versionsFrom told (fieldsOf (drop at file))) ≡ numberedIn number (versionsFrom 0 (fieldsOf (drop from file)))
+Inv-loop file from number told₀ at₀ told at = numberedSpot number (spotsFrom at told (fieldsOf (drop at file))) ≡ numberedSpot number (spotsFrom from 0 (fieldsOf (drop from file)))
 
 abbrev μ-loop : tie.MeasureT-loop
 μ-loop file from number told₀ at₀ told at = length file - at
@@ -30,7 +29,7 @@ enum-told : tie.Need-enum-told Inv-loop μ-loop
 enum-told c = search needs
 
 returns : tie.Need-returns Inv-loop μ-loop
-returns c = numbered-none (drop (c .before .before .before .loop .at) (c .before .before .before .before .before .args .file .now)) (c .before .before .before .loop .told) (c .before .before .before .before .before .args .number) _ (stops {file = c .before .before .before .before .before .args .file .now} {at = c .before .before .before .loop .at} (sym (c .enum-told .given .1) ∙ c .before .before .field-at .ensures) .none) (c .before .before .before .loop .inv)
+returns c = numbered-none (c .before .before .before .loop .at) (drop (c .before .before .before .loop .at) (c .before .before .before .before .before .args .file .now)) (c .before .before .before .loop .told) (c .before .before .before .before .before .args .number) _ (stops {file = c .before .before .before .before .before .args .file .now} {at = c .before .before .before .loop .at} (sym (c .enum-told .given .1) ∙ c .before .before .field-at .ensures) .none) (c .before .before .before .loop .inv)
 
 enum-known-tag : tie.Need-enum-known-tag Inv-loop μ-loop
 enum-known-tag c = search needs

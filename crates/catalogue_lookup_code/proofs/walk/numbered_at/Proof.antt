@@ -1,7 +1,8 @@
 -- `catalogue_lookup_code::walk::numbered_at` meets its contract: the version behind the card that was found.
 -- Assumes nothing.
 use mathlib.Core.Path.{sym, ap, _∙_}
-use Rattle.catalogue_lookup.specs.Lookup.{numberedIn, versionsBehind}
+use Rattle.catalogue_lookup.specs.Lookup.{numberedSpot}
+use Rattle.catalogue_lookup.specs.Walk.{spotsBehind}
 use borrow.Author.Needs.{needs}
 use Rattle.catalogue_lookup_code.proofs.walk.numbered_at.Statement.{statement}
 use Rattle.catalogue_lookup_code.proofs.walk.numbered_at.Tie as tie
@@ -19,11 +20,11 @@ numbered-requires : tie.Need-numbered-requires
 numbered-requires c κs = search needs
 
 returns : tie.Need-returns
-unfolding numberedIn
-returns c = ap (numberedIn (c .before .before .before .before .args .number)) (ap (versionsBehind (c .before .before .before .before .args .file .now)) (sym (c .enum-told .given .1)) ∙ c .before .before .find-card .ensures)
+unfolding numberedSpot
+returns c = ap (numberedSpot (c .before .before .before .before .args .number)) (ap (spotsBehind (c .before .before .before .before .args .file .now)) (sym (c .enum-told .given .1)) ∙ c .before .before .find-card .ensures)
 
 returns-2 : tie.Need-returns-2
-returns-2 c = c .numbered .ensures ∙ ap (numberedIn (c .before .before .before .before .before .before .args .number)) (ap (versionsBehind (c .before .before .before .before .before .before .args .file .now)) (sym (c .before .before .at .given .1)) ∙ c .before .before .before .before .find-card .ensures)
+returns-2 c = c .numbered .ensures ∙ ap (numberedSpot (c .before .before .before .before .before .before .args .number)) (ap (spotsBehind (c .before .before .before .before .before .before .args .file .now)) (sym (c .before .before .at .given .1)) ∙ c .before .before .before .before .find-card .ensures)
 
 pub numbered-at-spec : {M : Type 1} → statement M
 numbered-at-spec =

@@ -1,18 +1,18 @@
--- `catalogue_text::text::hex` is safe and ends: the loop's place stays within what it walks.
+-- `catalogue_text::text::hex` is safe and ends: the place falls to 0, and stays within the digits.
 -- Assumes nothing.
-use Prim.Native.Nat.{_-_, _≤_}
-use mathlib.Core.Path.{_≡_, sym}
+use Prim.Native.Nat.{_≤_}
 use native.Mathlib.Omega.{arith}
-use lib.ListN.{length, length-set, length-take}
+use mathlib.Core.Path.{_≡_}
+use lib.ListN.{length, length-set}
 use borrow.Author.Needs.{needs}
 use Rattle.catalogue_text.proofs.text.hex.Statement.{statement}
 use Rattle.catalogue_text.proofs.text.hex.Tie as tie
 
 abbrev Inv-loop : tie.InvT-loop
-Inv-loop address digits₀ left₀ at₀ digits left at = (at ≤ 12) × (length digits ≡ 12)
+Inv-loop fd number width digits₀ left₀ at₀ digits left at = (at ≤ 12) × (length digits ≡ 12)
 
 abbrev μ-loop : tie.MeasureT-loop
-μ-loop address digits₀ left₀ at₀ digits left at = at
+μ-loop fd number width digits₀ left₀ at₀ digits left at = at
 
 loop-holds : tie.Need-loop-holds Inv-loop μ-loop
 loop-holds c = search needs
@@ -35,11 +35,20 @@ loop-less c = search needs
 loop-again : tie.Need-loop-again Inv-loop μ-loop
 loop-again c = (omega arith, simp length-set (omega arith))
 
-slice-aggregate-tell : tie.Need-slice-aggregate-tell Inv-loop μ-loop
-slice-aggregate-tell c = search needs
+sub-first : tie.Need-sub-first Inv-loop μ-loop
+sub-first c = search needs
 
-tell-requires : tie.Need-tell-requires Inv-loop μ-loop
-tell-requires c κs = search needs
+sub-write-all : tie.Need-sub-write-all Inv-loop μ-loop
+sub-write-all c = search needs
+
+part-write-all-start : tie.Need-part-write-all-start Inv-loop μ-loop
+part-write-all-start c = search needs
+
+part-write-all-end : tie.Need-part-write-all-end Inv-loop μ-loop
+part-write-all-end c = search needs
+
+write-all-requires : tie.Need-write-all-requires Inv-loop μ-loop
+write-all-requires c κs = search needs
 
 returns : tie.Need-returns Inv-loop μ-loop
 returns c = search needs
@@ -57,6 +66,9 @@ hex-spec =
     array-write-digits
     loop-less
     loop-again
-    slice-aggregate-tell
-    tell-requires
+    sub-first
+    sub-write-all
+    part-write-all-start
+    part-write-all-end
+    write-all-requires
     returns)

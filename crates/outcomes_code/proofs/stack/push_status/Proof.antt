@@ -1,4 +1,4 @@
--- `outcomes_code::stack::push_status` meets its contract: a walk of its MIR. The group is copied to a local, the field's cell is taken out of the local's and lent to `push` for a lifetime that is made for the call (`Lent.antt`), comes back at what `push` left there, and goes back into the local's cell, which is returned.
+-- `outcomes_code::stack::push_status` meets its contract: a walk of its MIR. The group is copied to a local, the field's cell is taken out of the local's and lent to `push` for a lifetime that is made for the call (`laws`, `Lent.antt`), comes back at what `push` left there, and goes back into the local's cell, which is returned.
 -- All that the walk knows of `push` is that it meets its contract. Made by tools/walk-statuses. Assumes nothing.
 use mathlib.Core.Path.{refl, sym, ap, subst}
 use Prim.Native.Nat.{ℕ, _<_, _^_}
@@ -42,7 +42,7 @@ use denote.Exit.{yes}
 use Rattle.statuses.specs.Stack.{stack, Room, Stacks, added}
 use Rattle.statuses.specs.declared.Statuses.{Statuses}
 use Rattle.outcomes.specs.declared.Outcomes.{Outcomes}
-use Rattle.outcomes_code.proofs.Lent.{lends, back}
+use Rattle.laws.proofs.Lent.{lends, back}
 use Rattle.statuses.proofs.Statuses as T
 use Rattle.statuses.proofs.Statuses.Laws as T′
 use Rattle.outcomes.proofs.Outcomes as K

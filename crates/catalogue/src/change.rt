@@ -1,0 +1,93 @@
+// The commands that change a catalogue.
+use crate::refused;
+use catalogue_lookup::Seek;
+use catalogue_put::Written;
+use catalogue_text::files;
+use catalogue_text::lock;
+use catalogue_text::text;
+
+// The version that an image's card has got, read out of the new file.
+fn say_version(file: &[u8], image: &[u8]) {
+    let address = catalogue_add::address_of(image);
+    match catalogue_places::card_place(file, address) {
+        Seek::Missing => {}
+        Seek::Behind(at) => text::added(catalogue_places::last_number(file, at), address),
+    }
+}
+
+// Writes the new file, and says what version it has got; nothing where the file itself goes to standard output.
+fn put_added(path: &[u8], file: &[u8], image: &[u8]) {
+    if !files::put(path, file) {
+        return;
+    }
+    if text::is_dash(path) {
+        return;
+    }
+    say_version(file, image);
+}
+
+fn add_to(path: &[u8], from: &[u8]) {
+    let mut room = files::room();
+    let got = files::read(path, &mut room);
+    if !got.ok {
+        return;
+    }
+    // One byte more than an image has tells a longer file.
+    let mut image = [0u8; 129];
+    let read = files::read_start(from, &mut image);
+    if !read.ok {
+        return;
+    }
+    let n = got.len;
+    let k = read.len;
+    let mut out = files::room();
+    match catalogue_add::add(&room[..n], &image[..k], &mut out) {
+        Written::Refused(why) => refused::addition(&room[..n], &image[..k], why),
+        Written::Bytes(size) => put_added(
+            path,
+            catalogue_lookup_code::part(&out, 0, size),
+            &image[..k],
+        ),
+    }
+}
+
+pub fn add(path: &[u8], from: &[u8]) {
+    if text::is_dash(path) & text::is_dash(from) {
+        text::usage();
+        return;
+    }
+    if !lock::take(path) {
+        return;
+    }
+    add_to(path, from);
+    lock::release(path);
+}
+
+fn drop_from(path: &[u8], address: u64) {
+    let mut room = files::room();
+    let got = files::read(path, &mut room);
+    if !got.ok {
+        return;
+    }
+    let n = got.len;
+    let mut out = files::room();
+    match catalogue_drop::drop_oldest(&room[..n], address, &mut out) {
+        Written::Refused(why) => refused::file(&room[..n], why),
+        Written::Bytes(size) => {
+            files::put(path, catalogue_lookup_code::part(&out, 0, size));
+        }
+    }
+}
+
+pub fn drop(path: &[u8], address: &[u8]) {
+    let who = text::address(address);
+    if !who.ok {
+        text::usage();
+        return;
+    }
+    if !lock::take(path) {
+        return;
+    }
+    drop_from(path, who.value);
+    lock::release(path);
+}

@@ -1,0 +1,2 @@
+-- What the lookups show of a changed catalogue.
+pub mod After

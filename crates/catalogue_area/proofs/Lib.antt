@@ -1,0 +1,5 @@
+-- The law, and its figures by computing.
+mod Sizes
+mod Refusals
+pub mod Suffices
+mod Examples

@@ -1,0 +1,2 @@
+-- How much area always suffices.
+pub mod Area

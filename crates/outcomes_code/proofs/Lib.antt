@@ -1,2 +1,0 @@
--- How a field of a struct is lent.
-pub mod Lent

@@ -32,7 +32,7 @@ use Rattle.catalogue_put.specs.Put.{putAt, answerOf, areaAfter}
 use Rattle.catalogue_put.specs.Contracts.{Writes}
 use Rattle.catalogue_put.proofs.Chain.{put-front}
 use Rattle.catalogue_places.specs.Places.{seekIf, cardPlace}
-use Rattle.catalogue_add.specs.Accepted.{Parsed}
+use Rattle.catalogue_add.specs.Taken.{Parsed}
 
 pub does-refuse : (change : Change) (why : Refusal) (area : List ℕ) → change ≡ edit.no why → Writes change (written.Refused why) area area
 does-refuse change why area e = (ap answerOf (sym e), ap (λ (x : Change). areaAfter x area) (sym e))

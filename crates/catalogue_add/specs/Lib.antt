@@ -1,2 +1,2 @@
 -- What the contracts of `catalogue_add` cite.
-pub mod Accepted
+pub mod Taken

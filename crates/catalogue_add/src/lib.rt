@@ -13,7 +13,7 @@ ghost use Rattle.archive.specs.Archive.{addressIn};
 ghost use Rattle.changes.specs.Edit.{onCatalogue, addedTo};
 ghost use Rattle.catalogue_put.specs.Contracts.{Writes, Adds};
 ghost use Rattle.catalogue_places.specs.Places.{cardPlace};
-ghost use Rattle.catalogue_add.specs.Accepted.{Parsed};
+ghost use Rattle.catalogue_add.specs.Taken.{Parsed};
 use catalogue_file::Judged;
 use catalogue_lookup::Seek;
 use catalogue_put::Written;

@@ -12,7 +12,8 @@ use Rattle.refusal.specs.declared.Refusal.the-variants.{LengthOutside, Argument
 use Rattle.eeprom.specs.declared.Checked.the-variants.{Sound}
 use Rattle.eeprom.specs.Image.{orRefused, wordAt, checksumOf, secondaryOf, checkOf}
 use Rattle.fields.specs.Field.{Field}
-use Rattle.catalogue_file.specs.Reading.{Reading, catalogue, refused, roomy, parsed, hasRoom, addressesOf, anyTwice, read, fileOf}
+use Rattle.catalogue_file.specs.Reading.{Reading, catalogue, refused, parsed, anyTwice, read, fileOf}
+use Rattle.catalogue_file.proofs.Checked.{is-read}
 use Rattle.catalogue_laws.specs.RoundTrip.{Bytes}
 use Rattle.catalogue_laws.proofs.Fit.{accepted-is-well-formed}
 use Rattle.archive.specs.Archive.{movedIn, isSound, AllSound, addressesIn}
@@ -23,11 +24,6 @@ use Rattle.catalogue_kept.proofs.Parts.{or-left, or-right}
 use Rattle.catalogue_kept.proofs.Accepted.{not-refused, same-bytes, WasAdded, was-added, added-again, WasDropped, was-dropped, dropped-again}
 
 -- ---- a file that was read
-
--- A file in turn, with at most 64 cards and none twice, is accepted.
-accepted-so : (file : List ℕ) (fs : List Field) → parsed file ≡ catalogue fs → hasRoom fs ≡ true → anyTwice (addressesOf fs) ≡ false → read file ≡ catalogue fs
-unfolding read
-accepted-so file fs e room apart = ap roomy e ∙ rw (room, apart)
 
 -- Bytes are written only where fields were read.
 record Parsed (r : Reading) (f : List Field → Change) (after : List ℕ) : Type 0 where
@@ -46,7 +42,7 @@ add-file area file image after b e =
     not-refused _ LengthOutside _ after (not-refused (ltb area (length file + 145)) ArgumentOutside _ after e .1) in
     let p : Parsed (parsed file) (addedTo image) after = was-parsed (parsed file) (addedTo image) after (x .1) in
     let t : WasAdded image (p .those) after = was-added image (p .those) after (p .written) in
-    let r : read file ≡ catalogue (p .those) = accepted-so file (p .those) (p .are) (t .room) (t .apart) in
+    let r : read file ≡ catalogue (p .those) = is-read file (p .those) (p .are) (t .room) (t .apart) in
     let long : length image ≡ 128 = eqb-true (length image) 128 (not-false (eqb (length image) 128) (x .0)) in
     record {
       those = p .those;
@@ -59,7 +55,7 @@ unfolding dropped
 drop-file area file a after b e =
     let p : Parsed (parsed file) (droppedFrom a) after = was-parsed (parsed file) (droppedFrom a) after (not-refused (ltb area (length file)) ArgumentOutside _ after e .1) in
     let t : WasDropped a (p .those) after = was-dropped a (p .those) after (p .written) in
-    let r : read file ≡ catalogue (p .those) = accepted-so file (p .those) (p .are) (t .room) (t .apart) in
+    let r : read file ≡ catalogue (p .those) = is-read file (p .those) (p .are) (t .room) (t .apart) in
     record {
       those = p .those;
       before = r;

@@ -1,5 +1,7 @@
 // The mode of an open file, for a new file that is to have the same.
-ghost use Prim.Native.Nat.{_≤_};
+ghost use mathlib.Core.Path.{_≡_};
+ghost use mathlib.Core.Bool.{true};
+ghost use Rattle.file_mode.specs.Mode.{isMode};
 use libc::types::stat;
 use libc::types::timespec;
 
@@ -8,14 +10,14 @@ pub const UNKNOWN: u32 = 65536;
 
 // The mode of an open file, its twelve lowest bits; UNKNOWN where the system does not tell.
 pub fn mode_of(fd: i32) -> u32
-    ensures { λ r. ⌜ r ≤ 65536 ⌝ }
+    ensures { λ r. ⌜ isMode r ≡ true ⌝ }
 {
     told(fd, blank())
 }
 
 // The same, with a struct that the system fills.
 fn told(fd: i32, s: stat) -> u32
-    ensures { λ r. ⌜ r ≤ 65536 ⌝ }
+    ensures { λ r. ⌜ isMode r ≡ true ⌝ }
 {
     let mut filled = s;
     let status = libc::fstat(fd, &mut filled);
@@ -24,7 +26,7 @@ fn told(fd: i32, s: stat) -> u32
 
 // The mode in the struct, where the system answered 0.
 fn mode_in(status: i32, s: stat) -> u32
-    ensures { λ r. ⌜ r ≤ 65536 ⌝ }
+    ensures { λ r. ⌜ isMode r ≡ true ⌝ }
 {
     if status != 0 {
         return UNKNOWN;

@@ -1,0 +1,2 @@
+-- What the contracts of `file_mode` cite.
+pub mod Mode

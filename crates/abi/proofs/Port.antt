@@ -4,18 +4,18 @@ use mathlib.Core.Path.{_≡_, refl}
 use mathlib.Core.Bool.{Bool, true, false, cond, not, _&&_}
 use mathlib.Core.List.{List}
 use Prim.Native.Nat.{ℕ, _<_, _/_, _%_}
-use Rattle.laws.proofs.Tests.{both}
-use Rattle.idport.specs.declared.IdState.{IdState}
-use Rattle.idport.specs.Card.{idWrite, idBit, idAfterRead}
-use Rattle.idport.specs.Sound.{idSound}
-use Rattle.idport.proofs.Keep.{every-step-keeps-soundness}
-use Rattle.regs.specs.declared.Card.{Card}
-use Rattle.regs.specs.View.{view, Sound, Stands, soundCard}
-use Rattle.regs.specs.Sound.{selectSound}
-use Rattle.regs.proofs.Sides.{registers-of}
-use Rattle.steps.specs.Event as event
-use Rattle.card.specs.Calls.{judged, Does}
-use Rattle.port_cards.specs.Gathered.{isPort, digitOf}
+use Rattle.bits.proofs.Tests.{both}
+use Rattle.port_rules.specs.declared.IdState.{IdState}
+use Rattle.port_rules.specs.Card.{idWrite, idBit, idAfterRead}
+use Rattle.port_rules.specs.Sound.{idSound}
+use Rattle.port_rules.proofs.Keep.{every-step-keeps-soundness}
+use Rattle.card_rules.specs.declared.Card.{Card}
+use Rattle.card_rules.specs.View.{view, Sound, Stands, soundCard}
+use Rattle.card_rules.specs.Sound.{selectSound}
+use Rattle.card_rules.proofs.Sides.{registers-of}
+use Rattle.card_rules.specs.Event as event
+use Rattle.card_rules.specs.Calls.{judged, Does}
+use Rattle.port_rules.specs.Gathered.{isPort, digitOf}
 use Rattle.codes.specs.declared.cards.CardDone.{CardDone}
 use Rattle.abi.specs.declared.ids.CardBit.{CardBit}
 use Rattle.abi.specs.Ids.{Seated, bitOf}

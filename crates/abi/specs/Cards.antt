@@ -4,20 +4,20 @@ use mathlib.Core.Bool.{Bool}
 use mathlib.Core.List.{List}
 use Prim.Native.Nat.{ℕ}
 use lib.ListN.{length}
-use Rattle.idport.specs.declared.IdState.{IdState}
-use Rattle.idport.specs.Sound.{idSound}
-use Rattle.queue.specs.Leave.{toldOf}
-use Rattle.regs.specs.declared.Card.{Card}
-use Rattle.regs.specs.Adapter.{Adapter}
-use Rattle.regs.specs.Power.{powerOn}
-use Rattle.regs.specs.View.{view, Stands, soundCard}
-use Rattle.steps.specs.Access.{Access, access, ReadWord, ReadByte, WriteWord, WriteByte}
-use Rattle.steps.specs.Event as event
-use Rattle.transmit.specs.Tx.{ready}
-use Rattle.card.specs.Calls.{value, done, readReply, doneReply, toldReply, judged, isWord, isByte, onWire, offWire, Call, Area}
-use Rattle.card.specs.declared.AfterCall.{AfterCall}
-use Rattle.card.specs.declared.AfterRead.{AfterRead}
-use Rattle.card.specs.declared.AfterSuccess.{AfterSuccess}
+use Rattle.port_rules.specs.declared.IdState.{IdState}
+use Rattle.port_rules.specs.Sound.{idSound}
+use Rattle.transmit_rules.specs.Leave.{toldOf}
+use Rattle.card_rules.specs.declared.Card.{Card}
+use Rattle.card_rules.specs.Adapter.{Adapter}
+use Rattle.card_rules.specs.Power.{powerOn}
+use Rattle.card_rules.specs.View.{view, Stands, soundCard}
+use Rattle.card_rules.specs.Access.{Access, access, ReadWord, ReadByte, WriteWord, WriteByte}
+use Rattle.card_rules.specs.Event as event
+use Rattle.transmit_rules.specs.Tx.{ready}
+use Rattle.card_rules.specs.Calls.{value, done, readReply, doneReply, toldReply, judged, isWord, isByte, onWire, offWire, Call, Area}
+use Rattle.card_rules.specs.declared.AfterCall.{AfterCall}
+use Rattle.card_rules.specs.declared.AfterRead.{AfterRead}
+use Rattle.card_rules.specs.declared.AfterSuccess.{AfterSuccess}
 use Rattle.codes.specs.declared.cards.CardDone.{CardDone}
 use Rattle.codes.specs.declared.cards.CardRead.{CardRead}
 use Rattle.codes.specs.declared.cards.CardTold.{CardTold}

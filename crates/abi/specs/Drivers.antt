@@ -2,12 +2,12 @@
 use mathlib.Core.Path.{_≡_}
 use mathlib.Core.List.{List}
 use Prim.Native.Nat.{ℕ}
-use Rattle.regs.specs.declared.Card.{Card}
-use Rattle.talk.specs.declared.Driver.{Driver}
-use Rattle.opening.specs.declared.Opened.{Opened}
-use Rattle.sending.specs.declared.Sent.{Sent}
-use Rattle.serving.specs.declared.Serviced.{Serviced}
-use Rattle.driver.specs.Calls as call
+use Rattle.card_rules.specs.declared.Card.{Card}
+use Rattle.driver_rules.specs.declared.Driver.{Driver}
+use Rattle.driver_rules.specs.declared.Opened.{Opened}
+use Rattle.driver_rules.specs.declared.Sent.{Sent}
+use Rattle.driver_rules.specs.declared.Serviced.{Serviced}
+use Rattle.driver_rules.specs.Calls as call
 use Rattle.codes.specs.declared.drivers.DriverDone.{DriverDone}
 use Rattle.codes.specs.declared.drivers.DriverSent.{DriverSent}
 use Rattle.codes.specs.declared.drivers.DriverServed.{DriverServed}

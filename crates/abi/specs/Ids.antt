@@ -3,13 +3,13 @@ use mathlib.Core.Path.{_≡_}
 use mathlib.Core.Bool.{cond}
 use mathlib.Core.List.{List}
 use Prim.Native.Nat.{ℕ}
-use Rattle.idport.specs.declared.IdState.{IdState}
-use Rattle.idport.specs.Card.{idWrite, idBit, idAfterRead}
-use Rattle.regs.specs.declared.Card.{Card}
-use Rattle.regs.specs.View.{view, soundCard}
-use Rattle.steps.specs.Event as event
-use Rattle.card.specs.Calls.{judged, Does}
-use Rattle.port_cards.specs.Gathered.{isPort, digitOf}
+use Rattle.port_rules.specs.declared.IdState.{IdState}
+use Rattle.port_rules.specs.Card.{idWrite, idBit, idAfterRead}
+use Rattle.card_rules.specs.declared.Card.{Card}
+use Rattle.card_rules.specs.View.{view, soundCard}
+use Rattle.card_rules.specs.Event as event
+use Rattle.card_rules.specs.Calls.{judged, Does}
+use Rattle.port_rules.specs.Gathered.{isPort, digitOf}
 use Rattle.codes.specs.declared.cards.CardDone.{CardDone}
 use Rattle.abi.specs.declared.ids.CardBit.{CardBit}
 

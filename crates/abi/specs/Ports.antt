@@ -1,10 +1,10 @@
 -- Several cards on one ID port: some result x meets the contract of the public call, and r is x in numbers. That contract determines x. Assumes nothing.
 use mathlib.Core.Path.{_≡_}
 use Prim.Native.Nat.{ℕ}
-use Rattle.search.specs.declared.Bus.{Bus}
-use Rattle.search.specs.declared.AfterSearch.{AfterSearch}
-use Rattle.search.specs.declared.AfterActivation.{AfterActivation}
-use Rattle.search.specs.Calls.{foundOf, activatedOf, findsCards, activatesCard}
+use Rattle.port_rules.specs.declared.Bus.{Bus}
+use Rattle.port_rules.specs.declared.AfterSearch.{AfterSearch}
+use Rattle.port_rules.specs.declared.AfterActivation.{AfterActivation}
+use Rattle.port_rules.specs.Calls.{foundOf, activatedOf, findsCards, activatesCard}
 use Rattle.codes.specs.declared.ports.BusFound.{BusFound}
 use Rattle.codes.specs.declared.ports.BusDone.{BusDone}
 use Rattle.codes.specs.Codes.{codedFound, codedActivated}

@@ -1,10 +1,10 @@
 // The card's calls.
 ghost use Rattle.abi.specs.Cards as says;
-use codes::cards::CardDone;
-use codes::cards::CardRead;
-use codes::cards::CardTold;
-use idport::IdState;
-use regs::Card;
+use card_rules::Card;
+use codes::CardDone;
+use codes::CardRead;
+use codes::CardTold;
+use port_rules::IdState;
 
 // A card at power-on with these EEPROM words.
 #[no_mangle]
@@ -12,7 +12,7 @@ pub extern "C" fn seamtrout_card_power_on(words: &[u16; 64]) -> Card
     ensures { λ r. ⌜ says.PowersOn (now (words .entry)) r ⌝ }
 {
     let w = *words;
-    card_code::power_on(w)
+    card::power_on(w)
 }
 
 // The host reads a word.
@@ -25,8 +25,8 @@ pub extern "C" fn seamtrout_card_read_word(
 ) -> CardRead
     ensures { λ r. ⌜ says.ReadsWord c (now (ram .entry)) (now (dir .entry)) o r ⌝ }
 {
-    let x = card_code::read_word(ram, dir, c, o);
-    codes::cards::coded_read(x)
+    let x = card::read_word(ram, dir, c, o);
+    codes::coded_read(x)
 }
 
 // The host reads a byte.
@@ -39,8 +39,8 @@ pub extern "C" fn seamtrout_card_read_byte(
 ) -> CardRead
     ensures { λ r. ⌜ says.ReadsByte c (now (ram .entry)) (now (dir .entry)) o r ⌝ }
 {
-    let x = card_code::read_byte(ram, dir, c, o);
-    codes::cards::coded_read(x)
+    let x = card::read_byte(ram, dir, c, o);
+    codes::coded_read(x)
 }
 
 // The host writes a word.
@@ -54,8 +54,8 @@ pub extern "C" fn seamtrout_card_write_word(
 ) -> CardDone
     ensures { λ r. ⌜ says.WritesWord c (now (ram .entry)) (now (dir .entry)) o v r (now (ram .exit)) (now (dir .exit)) ⌝ }
 {
-    let x = card_code::write_word(ram, dir, c, o, v);
-    codes::cards::coded_done(x)
+    let x = card::write_word(ram, dir, c, o, v);
+    codes::coded_done(x)
 }
 
 // The host writes a byte.
@@ -69,8 +69,8 @@ pub extern "C" fn seamtrout_card_write_byte(
 ) -> CardDone
     ensures { λ r. ⌜ says.WritesByte c (now (ram .entry)) (now (dir .entry)) o v r (now (ram .exit)) (now (dir .exit)) ⌝ }
 {
-    let x = card_code::write_byte(ram, dir, c, o, v);
-    codes::cards::coded_done(x)
+    let x = card::write_byte(ram, dir, c, o, v);
+    codes::coded_done(x)
 }
 
 // The wire starts a frame with its first 8 bytes.
@@ -84,8 +84,8 @@ pub extern "C" fn seamtrout_card_wire_start(
     ensures { λ r. ⌜ says.Starts c (now (ram .entry)) (now (dir .entry)) (now (first .entry)) r (now (ram .exit)) (now (dir .exit)) ⌝ }
 {
     let eight = *first;
-    let x = card_code::wire_start(ram, dir, c, eight);
-    codes::cards::coded_done(x)
+    let x = card::wire_start(ram, dir, c, eight);
+    codes::coded_done(x)
 }
 
 // The wire brings a byte.
@@ -98,8 +98,8 @@ pub extern "C" fn seamtrout_card_wire_byte(
 ) -> CardDone
     ensures { λ r. ⌜ says.Brings c (now (ram .entry)) (now (dir .entry)) b r (now (ram .exit)) (now (dir .exit)) ⌝ }
 {
-    let x = card_code::wire_byte(ram, dir, c, b);
-    codes::cards::coded_done(x)
+    let x = card::wire_byte(ram, dir, c, b);
+    codes::coded_done(x)
 }
 
 // The wire ends the frame: check sequence good, alignment good.
@@ -113,8 +113,8 @@ pub extern "C" fn seamtrout_card_wire_end(
 ) -> CardDone
     ensures { λ r. ⌜ says.Ends c (now (ram .entry)) (now (dir .entry)) check alignment r (now (ram .exit)) (now (dir .exit)) ⌝ }
 {
-    let x = card_code::wire_end(ram, dir, c, check, alignment);
-    codes::cards::coded_done(x)
+    let x = card::wire_end(ram, dir, c, check, alignment);
+    codes::coded_done(x)
 }
 
 // A send outcome: success.
@@ -127,8 +127,8 @@ pub extern "C" fn seamtrout_card_sent(
 ) -> CardTold
     ensures { λ r. ⌜ says.Succeeds c (now (ram .entry)) (now (dir .entry)) (now (out .entry)) r (now (ram .exit)) (now (dir .exit)) (now (out .exit)) ⌝ }
 {
-    let x = card_code::success(ram, dir, c, out);
-    codes::cards::coded_told(x)
+    let x = card::success(ram, dir, c, out);
+    codes::coded_told(x)
 }
 
 // A send outcome: 16 collisions.
@@ -140,8 +140,8 @@ pub extern "C" fn seamtrout_card_collided(
 ) -> CardDone
     ensures { λ r. ⌜ says.Collides c (now (ram .entry)) (now (dir .entry)) r (now (ram .exit)) (now (dir .exit)) ⌝ }
 {
-    let x = card_code::collisions(ram, dir, c);
-    codes::cards::coded_done(x)
+    let x = card::collisions(ram, dir, c);
+    codes::coded_done(x)
 }
 
 // An ID state, as the ID port left it, is seated as the card's own.
@@ -154,6 +154,6 @@ pub extern "C" fn seamtrout_card_seat(
 ) -> CardDone
     ensures { λ r. ⌜ says.Seats c (now (ram .entry)) (now (dir .entry)) i r ⌝ }
 {
-    let x = card_code::seat(ram, dir, c, i);
-    codes::cards::coded_done(x)
+    let x = card::seat(ram, dir, c, i);
+    codes::coded_done(x)
 }

@@ -1,10 +1,10 @@
 // The driver's calls.
 ghost use Rattle.abi.specs.Drivers as says;
-use codes::drivers::DriverDone;
-use codes::drivers::DriverSent;
-use codes::drivers::DriverServed;
-use regs::Card;
-use talk::Driver;
+use card_rules::Card;
+use codes::DriverDone;
+use codes::DriverSent;
+use codes::DriverServed;
+use driver_rules::Driver;
 
 // Open, with the address as words 00h-02h.
 #[no_mangle]
@@ -19,8 +19,8 @@ pub extern "C" fn seamtrout_driver_open(
 ) -> DriverDone
     ensures { λ r. ⌜ says.Opens c (now (ram .entry)) (now (dir .entry)) d w0 w1 w2 r (now (ram .exit)) (now (dir .exit)) ⌝ }
 {
-    let x = driver_code::open(ram, dir, c, d, w0, w1, w2);
-    codes::drivers::coded_opened(x)
+    let x = driver::open(ram, dir, c, d, w0, w1, w2);
+    codes::coded_opened(x)
 }
 
 // Send a packet, without its check bytes.
@@ -34,8 +34,8 @@ pub extern "C" fn seamtrout_driver_send(
 ) -> DriverSent
     ensures { λ r. ⌜ says.Sends c (now (ram .entry)) (now (dir .entry)) d (now (packet .entry)) r (now (ram .exit)) (now (dir .exit)) ⌝ }
 {
-    let x = driver_code::send(ram, dir, c, d, packet);
-    codes::drivers::coded_sent(x)
+    let x = driver::send(ram, dir, c, d, packet);
+    codes::coded_sent(x)
 }
 
 // Service, with at most `budget` accesses. A frame of up to 256 bytes lands in `ahead`, a longer one in `frame`.
@@ -51,6 +51,6 @@ pub extern "C" fn seamtrout_driver_service(
 ) -> DriverServed
     ensures { λ r. ⌜ says.Services c (now (ram .entry)) (now (dir .entry)) d budget (now (ahead .entry)) (now (frame .entry)) r (now (ram .exit)) (now (dir .exit)) (now (ahead .exit)) (now (frame .exit)) ⌝ }
 {
-    let x = driver_code::service(ram, dir, c, d, budget, ahead, frame);
-    codes::drivers::coded_served(x)
+    let x = driver::service(ram, dir, c, d, budget, ahead, frame);
+    codes::coded_served(x)
 }

@@ -1,11 +1,11 @@
 // One card on the ID port. The host's reads are a wired-and over all cards: each tells what it drives, and hears what the bus carried.
 ghost use mathlib.Core.Path.{_≡_};
 ghost use mathlib.Core.Bool.{true};
-ghost use Rattle.idport.specs.Sound.{idSound};
+ghost use Rattle.port_rules.specs.Sound.{idSound};
 ghost use Rattle.abi.specs.Ids as says;
-use codes::cards::CardDone;
-use idport::IdState;
-use regs::Card;
+use card_rules::Card;
+use codes::CardDone;
+use port_rules::IdState;
 
 // The bit that a card drives, and the code.
 #[repr(C)]
@@ -19,13 +19,13 @@ fn seated(ram: &[u8; 8192], dir: &[u16; 1110], c: Card, port: u16, i: IdState) -
     requires { ⌜ (idSound (c .id) ≡ true → idSound i ≡ true) ⌝ }
     ensures { λ r. ⌜ says.Seated (says.refusal c (now (ram .entry)) (now (dir .entry)) port) i c (now (ram .entry)) (now (dir .entry)) r ⌝ }
 {
-    if !regs_code::is_sound(ram, dir, c) {
+    if !regs::is_sound(ram, dir, c) {
         return CardDone { card: c, code: 1 };
     }
-    if !port_cards::is_port(port) {
+    if !idport::is_port(port) {
         return CardDone { card: c, code: 12 };
     }
-    let card = steps_code::seat(ram, dir, c, i);
+    let card = steps::seat(ram, dir, c, i);
     CardDone {
         card: card,
         code: 0,
@@ -43,7 +43,7 @@ pub extern "C" fn seamtrout_card_id_write(
 ) -> CardDone
     ensures { λ r. ⌜ says.Writes c (now (ram .entry)) (now (dir .entry)) port byte r ⌝ }
 {
-    let i = id_steps::written(c.id, port, byte);
+    let i = idport::written(c.id, port, byte);
     seated(ram, dir, c, port, i)
 }
 
@@ -57,13 +57,13 @@ pub extern "C" fn seamtrout_card_id_bit(
 ) -> CardBit
     ensures { λ r. ⌜ r ≡ says.bitOf c (now (ram .entry)) (now (dir .entry)) port ⌝ }
 {
-    if !regs_code::is_sound(ram, dir, c) {
+    if !regs::is_sound(ram, dir, c) {
         return CardBit { bit: 0, code: 1 };
     }
-    if !port_cards::is_port(port) {
+    if !idport::is_port(port) {
         return CardBit { bit: 0, code: 12 };
     }
-    let bit = id_steps::bit(c.id, port);
+    let bit = idport::bit(c.id, port);
     CardBit { bit: bit, code: 0 }
 }
 
@@ -78,6 +78,6 @@ pub extern "C" fn seamtrout_card_id_hear(
 ) -> CardDone
     ensures { λ r. ⌜ says.Hears c (now (ram .entry)) (now (dir .entry)) port bus r ⌝ }
 {
-    let i = id_steps::heard(c.id, port, bus);
+    let i = idport::heard(c.id, port, bus);
     seated(ram, dir, c, port, i)
 }

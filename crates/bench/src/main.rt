@@ -2,5 +2,5 @@
 use libc::STDIN_FILENO;
 
 fn main() {
-    play::play(STDIN_FILENO);
+    bench_lib::play(STDIN_FILENO);
 }

@@ -11,7 +11,7 @@ fn tell(path: &[u8]) {
     io::write_all(STDOUT_FILENO, b"== ");
     io::write_all(STDOUT_FILENO, path);
     io::write_all(STDOUT_FILENO, b"\n");
-    play::play(fd);
+    bench_lib::play(fd);
     libc::close(fd);
 }
 

@@ -1,3 +1,3 @@
 -- The rows of the table: the short ones by computing, the long ones by the laws of what the wire brings.
-pub mod Wire
 pub mod Rows
+pub mod Wire

@@ -6,45 +6,45 @@ use Prim.Native.Nat.{ℕ, _+_, _-_, _≤_}
 use native.Mathlib.Omega.{arith}
 use lib.ListN.{length, replicate}
 use lib.Dec.{lit≤}
-use Rattle.idport.specs.Sequence.{idByte, idNext}
-use Rattle.idport.specs.Sound.{idSound}
-use Rattle.idport.proofs.Chain.{the-sequence}
-use Rattle.search.specs.Search.{idBytes}
+use Rattle.port_rules.specs.Sequence.{idByte, idNext}
+use Rattle.port_rules.specs.Sound.{idSound}
+use Rattle.port_rules.proofs.Chain.{the-sequence}
+use Rattle.port_rules.specs.Search.{idBytes}
 use Rattle.found.proofs.Found.{costs-so}
-use Rattle.idport.specs.declared.IdState.{IdState}
-use Rattle.receive.specs.Frame.{whole, Frame, isComing, overran, room}
-use Rattle.receive.specs.Wire as wire
-use Rattle.receive.specs.Wire.{passes, begins, marked, ending, ends, fresh}
-use Rattle.receive.specs.Reading as reading
-use Rattle.receive.specs.Reading.{marks, unread, complete, readable, oldest, dataWord, afterRead, withoutOldest}
-use Rattle.receive.specs.Sound.{inOrder, earlySettled}
-use Rattle.receive.specs.Early.{earlyFlag, toldFlag}
+use Rattle.port_rules.specs.declared.IdState.{IdState}
+use Rattle.receive_rules.specs.Frame.{whole, Frame, isComing, overran, room}
+use Rattle.receive_rules.specs.Wire as wire
+use Rattle.receive_rules.specs.Wire.{passes, begins, marked, ending, ends, fresh}
+use Rattle.receive_rules.specs.Reading as reading
+use Rattle.receive_rules.specs.Reading.{marks, unread, complete, readable, oldest, dataWord, afterRead, withoutOldest}
+use Rattle.receive_rules.specs.Sound.{inOrder, earlySettled}
+use Rattle.receive_rules.specs.Early.{earlyFlag, toldFlag}
 use Rattle.store.specs.Store.{atNewest}
-use Rattle.queue.specs.Queue as queue
-use Rattle.queue.specs.Queue.{Queue}
-use Rattle.queue.specs.Sound.{allSized}
-use Rattle.outcomes.specs.Outcome.{some, enable, due}
-use Rattle.regs.specs.declared.Select.{Select}
-use Rattle.regs.specs.Room.{txSize, rxSize}
-use Rattle.regs.specs.Status.{statusOf, interrupting}
-use Rattle.regs.specs.Settle.{settle}
-use Rattle.regs.specs.Sound.{selectSound}
-use Rattle.regs.specs.Power.{powerOn}
-use Rattle.commands.specs.Command.{acknowledge, act, command, commanded}
-use Rattle.window_read.specs.Read.{window1, wordAt, afterWord}
-use Rattle.window_write.specs.Write.{coversLow, coversHigh, write, write1, write2, writeWord, writeByte}
-use Rattle.steps.specs.Access.{ReadWord, Step, access, effect}
-use Rattle.steps.specs.Event as card
-use Rattle.steps.proofs.Ends.{awake}
-use Rattle.talk.specs.declared.Driver.{Driver}
-use Rattle.talk.specs.Talk as talk
-use Rattle.talk.specs.Talk.{run, readWords}
-use Rattle.opening.specs.Open.{openTalk}
-use Rattle.items.specs.Items.{idleTalk, fetchTalk}
-use Rattle.items.specs.Areas.{inLook, inFrame}
-use Rattle.service.specs.Service.{lookTalk}
-use Rattle.driver.specs.Calls.{openCall, serviceCall}
-use Rattle.driver.specs.Paper.{Paper, frame, idle}
+use Rattle.transmit_rules.specs.Queue as queue
+use Rattle.transmit_rules.specs.Queue.{Queue}
+use Rattle.transmit_rules.specs.QueueSound.{allSized}
+use Rattle.transmit_rules.specs.Outcome.{some, enable, due}
+use Rattle.card_rules.specs.declared.Select.{Select}
+use Rattle.card_rules.specs.Room.{txSize, rxSize}
+use Rattle.card_rules.specs.Status.{statusOf, interrupting}
+use Rattle.card_rules.specs.Settle.{settle}
+use Rattle.card_rules.specs.Sound.{selectSound}
+use Rattle.card_rules.specs.Power.{powerOn}
+use Rattle.card_rules.specs.Command.{acknowledge, act, command, commanded}
+use Rattle.card_rules.specs.Read.{window1, wordAt, afterWord}
+use Rattle.card_rules.specs.Write.{coversLow, coversHigh, write, write1, write2, writeWord, writeByte}
+use Rattle.card_rules.specs.Access.{ReadWord, Step, access, effect}
+use Rattle.card_rules.specs.Event as card
+use Rattle.card_rules.proofs.StepEnds.{awake}
+use Rattle.driver_rules.specs.declared.Driver.{Driver}
+use Rattle.driver_rules.specs.Talk as talk
+use Rattle.driver_rules.specs.Talk.{run, readWords}
+use Rattle.driver_rules.specs.Open.{openTalk}
+use Rattle.driver_rules.specs.Items.{idleTalk, fetchTalk}
+use Rattle.driver_rules.specs.Areas.{inLook, inFrame}
+use Rattle.driver_rules.specs.Service.{lookTalk}
+use Rattle.driver_rules.specs.Calls.{openCall, serviceCall}
+use Rattle.driver_rules.specs.Paper.{Paper, frame, idle}
 use Rattle.runs.specs.Run.{Bench, soundBench, Event, Start, Byte, End, Service, Said, opens, serves, next, said, after}
 use Rattle.runs.proofs.Kept.{after-sound}
 use Rattle.runs.proofs.Append.{after-append}

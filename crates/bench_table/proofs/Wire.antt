@@ -6,23 +6,23 @@ use Prim.Native.Nat.{ℕ, _+_, _≤_, _<_}
 use native.Mathlib.Omega.{arith}
 use lib.ListN.{length, length-append}
 use lib.Dec.{eqb}
-use Rattle.laws.proofs.Tests.{of-cond}
+use Rattle.bits.proofs.Tests.{of-cond}
 use Rattle.store.specs.Store.{atNewest, round4}
 use Rattle.store.proofs.Laws.{at-snoc}
-use Rattle.idport.specs.declared.IdState.{IdState}
-use Rattle.receive.specs.Frame.{Frame, Rx, room}
-use Rattle.receive.specs.Wire as wires
-use Rattle.receive.specs.Wire.{begins, fresh, ends, fits8}
-use Rattle.receive.specs.Early.{settleEarly}
-use Rattle.receive.proofs.Whole.{Storing, start-stored}
-use Rattle.queue.specs.Queue.{Queue}
-use Rattle.regs.specs.declared.Select.{Select}
-use Rattle.regs.specs.Adapter.{Adapter}
-use Rattle.regs.specs.Room.{rxRoom}
-use Rattle.regs.specs.Settle.{settle}
-use Rattle.steps.specs.Event as card
-use Rattle.card.specs.Calls.{onWire, offWire}
-use Rattle.talk.specs.declared.Driver.{Driver}
+use Rattle.port_rules.specs.declared.IdState.{IdState}
+use Rattle.receive_rules.specs.Frame.{Frame, Rx, room}
+use Rattle.receive_rules.specs.Wire as wires
+use Rattle.receive_rules.specs.Wire.{begins, fresh, ends, fits8}
+use Rattle.receive_rules.specs.Early.{settleEarly}
+use Rattle.receive_rules.proofs.Whole.{Storing, start-stored}
+use Rattle.transmit_rules.specs.Queue.{Queue}
+use Rattle.card_rules.specs.declared.Select.{Select}
+use Rattle.card_rules.specs.Adapter.{Adapter}
+use Rattle.card_rules.specs.Room.{rxRoom}
+use Rattle.card_rules.specs.Settle.{settle}
+use Rattle.card_rules.specs.Event as card
+use Rattle.card_rules.specs.Calls.{onWire, offWire}
+use Rattle.driver_rules.specs.declared.Driver.{Driver}
 use Rattle.runs.specs.Run.{Bench, withAdapter, Event, Start, Byte, End, wire, taken, next, after}
 use Rattle.frames_carried.proofs.One.{On, byte-on}
 

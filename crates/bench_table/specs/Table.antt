@@ -4,12 +4,12 @@ use mathlib.Core.Bool.{Bool, true, false}
 use mathlib.Core.List.{List, [], _∷_, _++_, map}
 use Prim.Native.Nat.{ℕ, _-_}
 use lib.ListN.{length, replicate}
-use Rattle.idport.specs.Sequence.{idByte}
-use Rattle.search.specs.Search.{idBytes}
+use Rattle.port_rules.specs.Sequence.{idByte}
+use Rattle.port_rules.specs.Search.{idBytes}
 use Rattle.found.specs.Theorems.{The-search-costs}
-use Rattle.steps.specs.Access.{ReadWord, access}
-use Rattle.talk.specs.Talk.{afterReads}
-use Rattle.driver.specs.Paper.{Paper, frame, idle}
+use Rattle.card_rules.specs.Access.{ReadWord, access}
+use Rattle.driver_rules.specs.Talk.{afterReads}
+use Rattle.driver_rules.specs.Paper.{Paper, frame, idle}
 use Rattle.runs.specs.Run.{Bench, Areas, Event, Start, Byte, End, Service, Said, refused, told, answered, served, withAdapter, said, after}
 use Rattle.sends_carried.specs.Rooms.{ready, Rows}
 

@@ -1,12 +1,12 @@
 // Long random runs of the public card calls, sensible and senseless. It prints how many calls were done and how many were refused, and a sum over all values read.
-use card::AfterCall;
-use card::AfterRead;
-use card::AfterSuccess;
-use card::Done;
-use card::Read;
-use card::Told;
+use card_rules::AfterCall;
+use card_rules::AfterRead;
+use card_rules::AfterSuccess;
+use card_rules::Card;
+use card_rules::Done;
+use card_rules::Read;
+use card_rules::Told;
 use libc::STDOUT_FILENO;
-use regs::Card;
 
 // The next of a row of pseudo-random numbers.
 fn next(x: u64) -> u64 {
@@ -106,15 +106,15 @@ fn access(
     let c = b.card;
     let t = b.tally;
     if kind == 0 {
-        return read(card_code::read_word(ram, dir, c, o), t);
+        return read(card::read_word(ram, dir, c, o), t);
     }
     if kind == 1 {
-        return read(card_code::read_byte(ram, dir, c, o), t);
+        return read(card::read_byte(ram, dir, c, o), t);
     }
     if kind == 2 {
-        return called(card_code::write_word(ram, dir, c, o, v), t);
+        return called(card::write_word(ram, dir, c, o, v), t);
     }
-    called(card_code::write_byte(ram, dir, c, o, (v % 256) as u8), t)
+    called(card::write_byte(ram, dir, c, o, (v % 256) as u8), t)
 }
 
 // An event of the wire, or a send outcome.
@@ -129,18 +129,18 @@ fn event(
     let c = b.card;
     let t = b.tally;
     if kind == 0 {
-        return called(card_code::wire_start(ram, dir, c, [255; 8]), t);
+        return called(card::wire_start(ram, dir, c, [255; 8]), t);
     }
     if kind == 1 {
-        return called(card_code::wire_end(ram, dir, c, v % 8 != 0, v % 16 != 1), t);
+        return called(card::wire_end(ram, dir, c, v % 8 != 0, v % 16 != 1), t);
     }
     if kind == 2 {
-        return sent(card_code::success(ram, dir, c, out), t);
+        return sent(card::success(ram, dir, c, out), t);
     }
     if kind == 3 {
-        return called(card_code::collisions(ram, dir, c), t);
+        return called(card::collisions(ram, dir, c), t);
     }
-    called(card_code::wire_byte(ram, dir, c, (v % 256) as u8), t)
+    called(card::wire_byte(ram, dir, c, (v % 256) as u8), t)
 }
 
 // One random call; offsets reach past 0Fh, and commands are frequent.
@@ -175,14 +175,14 @@ fn awaken(ram: &[u8; 8192], dir: &[u16; 1110], b: Bench) -> Bench {
     let c = b.card;
     let mut id = c.id;
     id.active = true;
-    called(card_code::seat(ram, dir, c, id), b.tally)
+    called(card::seat(ram, dir, c, id), b.tally)
 }
 
 fn main() {
     let mut ram = [0u8; 8192];
     let mut dir = [0u16; 1110];
     let mut out = [0u8; 1792];
-    let first = card_code::power_on([0x1234; 64]);
+    let first = card::power_on([0x1234; 64]);
     let mut b = Bench {
         card: first,
         tally: Tally {

@@ -1,17 +1,17 @@
 // The commands that change a catalogue.
 use crate::refused;
-use catalogue_lookup::Seek;
-use catalogue_put::Written;
-use catalogue_text::files;
-use catalogue_text::lock;
-use catalogue_text::text;
+use catalogue_lib::files;
+use catalogue_lib::lock;
+use catalogue_lib::text;
+use catalogue_rules::Seek;
+use catalogue_rules::Written;
 
 // The version that an image's card has got, read out of the new file.
 fn say_version(file: &[u8], image: &[u8]) {
     let address = catalogue_add::address_of(image);
-    match catalogue_places::card_place(file, address) {
+    match catalogue_put::card_place(file, address) {
         Seek::Missing => {}
-        Seek::Behind(at) => text::added(catalogue_places::last_number(file, at), address),
+        Seek::Behind(at) => text::added(catalogue_put::last_number(file, at), address),
     }
 }
 
@@ -43,11 +43,7 @@ fn add_to(path: &[u8], from: &[u8]) {
     let mut out = files::room();
     match catalogue_add::add(&room[..n], &image[..k], &mut out) {
         Written::Refused(why) => refused::addition(&room[..n], &image[..k], why),
-        Written::Bytes(size) => put_added(
-            path,
-            catalogue_lookup_code::part(&out, 0, size),
-            &image[..k],
-        ),
+        Written::Bytes(size) => put_added(path, catalogue_lookup::part(&out, 0, size), &image[..k]),
     }
 }
 
@@ -74,7 +70,7 @@ fn drop_from(path: &[u8], address: u64) {
     match catalogue_drop::drop_oldest(&room[..n], address, &mut out) {
         Written::Refused(why) => refused::file(&room[..n], why),
         Written::Bytes(size) => {
-            files::put(path, catalogue_lookup_code::part(&out, 0, size));
+            files::put(path, catalogue_lookup::part(&out, 0, size));
         }
     }
 }

@@ -1,10 +1,10 @@
 // The catalogue at a shell: `catalogue list FILE` and the other commands that `text::usage` names.
+use catalogue_lib::text;
+
 mod change;
 mod moving;
 mod refused;
 mod show;
-
-use catalogue_text::text;
 
 // A command that moves an archive: two names, and --replace at any place behind the command.
 fn archive(inward: bool, words: usize, one: &[u8], two: &[u8], three: &[u8]) {

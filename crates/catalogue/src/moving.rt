@@ -1,10 +1,10 @@
 // The commands that move an archive in and out. What stands at the file that they write is written over only when asked.
 use crate::refused;
-use catalogue_file::Judged;
-use catalogue_put::Written;
-use catalogue_text::files;
-use catalogue_text::lock;
-use catalogue_text::text;
+use catalogue_lib::files;
+use catalogue_lib::lock;
+use catalogue_lib::text;
+use catalogue_rules::Judged;
+use catalogue_rules::Written;
 use refusal::Refusal;
 
 // Whether a file with at least a byte stands at the path.
@@ -28,7 +28,7 @@ fn has_catalogue(path: &[u8]) -> bool {
         return false;
     }
     let n = got.len;
-    match catalogue_file_code::check(&room[..n]) {
+    match catalogue_read::check(&room[..n]) {
         Judged::Refused(_) => false,
         Judged::Sound {
             cards: _,
@@ -80,7 +80,7 @@ fn move_to(inward: bool, from: &[u8], path: &[u8]) {
     match moved(inward, &room[..n], &mut out) {
         Written::Refused(why) => refuse(inward, &room[..n], why),
         Written::Bytes(size) => {
-            files::put(path, catalogue_lookup_code::part(&out, 0, size));
+            files::put(path, catalogue_lookup::part(&out, 0, size));
         }
     }
 }

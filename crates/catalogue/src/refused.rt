@@ -1,10 +1,10 @@
 // What is said of a refusal: a line that begins with its number, and says where the refused bytes are wrong.
-use catalogue_file::Judged;
-use catalogue_text::text::source;
-use catalogue_text::text::warn;
-use catalogue_text::text::warn_address;
-use catalogue_text::text::warn_number;
-use catalogue_why::file::Full;
+use catalogue_lib::source;
+use catalogue_lib::warn;
+use catalogue_lib::warn_address;
+use catalogue_lib::warn_number;
+use catalogue_rules::Judged;
+use catalogue_why::Full;
 use refusal::Refusal;
 
 fn begin(why: Refusal) {
@@ -20,7 +20,7 @@ fn at_byte(what: &[u8], place: usize) {
 }
 
 fn listed_twice(file: &[u8]) {
-    let again = catalogue_why::file::repeated(file);
+    let again = catalogue_why::repeated(file);
     warn(b"an address is listed twice: ");
     warn_address(again.address);
     warn(b", again at byte ");
@@ -40,10 +40,10 @@ fn words(file: &[u8], why: Refusal) {
         Refusal::ChecksumWrong => warn(b"word 0Fh of an image is not the checksum"),
         Refusal::SecondaryWrong => warn(b"word 17h of an image is not the secondary checksums"),
         Refusal::ArgumentOutside => warn(b"no room to write the changed file"),
-        Refusal::FieldDamaged => at_byte(b"a field is damaged", catalogue_why::file::damage(file)),
-        Refusal::FileEndsEarly => at_byte(b"the file ends early", catalogue_why::file::end(file)),
+        Refusal::FieldDamaged => at_byte(b"a field is damaged", catalogue_why::damage(file)),
+        Refusal::FileEndsEarly => at_byte(b"the file ends early", catalogue_why::end(file)),
         Refusal::NoSuchCard => warn(b"no such card"),
-        Refusal::NoPlace => too_many(catalogue_why::file::cards(file)),
+        Refusal::NoPlace => too_many(catalogue_why::cards(file)),
         Refusal::ListedTwice => listed_twice(file),
         _ => warn(b"no"),
     }
@@ -59,7 +59,7 @@ pub fn file(file: &[u8], why: Refusal) {
 // Of a version of a card.
 pub fn version(file: &[u8], address: u64, why: Refusal) {
     begin(why);
-    if (refusal::number(why) == 17) & catalogue_file_code::search::listed(file, 0, address) {
+    if (refusal::number(why) == 17) & catalogue_read::listed(file, 0, address) {
         warn(b"no such version\n");
         return;
     }
@@ -68,7 +68,7 @@ pub fn version(file: &[u8], address: u64, why: Refusal) {
 }
 
 fn full(file: &[u8], address: u64) {
-    match catalogue_why::file::no_room(file, address) {
+    match catalogue_why::no_room(file, address) {
         Full::Cards => warn(b"no room for a card: 64 are there"),
         Full::Versions => warn(b"no room for a version: the card has 8"),
         Full::Numbers => warn(b"no room for a number: the latest is 65535"),
@@ -79,7 +79,7 @@ fn full(file: &[u8], address: u64) {
 // Of a version that was to go in.
 pub fn addition(file: &[u8], image: &[u8], why: Refusal) {
     begin(why);
-    if (refusal::number(why) == 18) & (catalogue_why::file::cards(file) <= 64) {
+    if (refusal::number(why) == 18) & (catalogue_why::cards(file) <= 64) {
         full(file, catalogue_add::address_of(image));
     } else {
         words(file, why);
@@ -91,12 +91,12 @@ pub fn addition(file: &[u8], image: &[u8], why: Refusal) {
 fn word_of(archive: &[u8], word: &[u8], why: Refusal, is_not: &[u8]) {
     warn(word);
     warn(b" of image ");
-    warn_number(catalogue_why::archive::unsound(archive, refusal::number(why)));
+    warn_number(catalogue_why::unsound(archive, refusal::number(why)));
     warn(is_not);
 }
 
 fn twins(archive: &[u8]) {
-    let both = catalogue_why::archive::twins(archive);
+    let both = catalogue_why::twins(archive);
     warn(b"images ");
     warn_number(both.first);
     warn(b" and ");
@@ -130,7 +130,7 @@ pub fn archive(archive: &[u8], why: Refusal) {
 
 // Whether the check of a file answers this refusal.
 fn is_due(file: &[u8], why: Refusal) -> bool {
-    match catalogue_file_code::check(file) {
+    match catalogue_read::check(file) {
         Judged::Refused(own) => refusal::number(own) == refusal::number(why),
         Judged::Sound {
             cards: _,

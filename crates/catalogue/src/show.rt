@@ -1,11 +1,11 @@
 // The commands that change nothing.
 use crate::refused;
-use catalogue_file::Judged;
-use catalogue_lookup::Hit;
-use catalogue_lookup::Place;
-use catalogue_text::files;
-use catalogue_text::text;
-use eeprom::WordOffset;
+use catalogue_lib::files;
+use catalogue_lib::text;
+use catalogue_rules::Hit;
+use catalogue_rules::Judged;
+use catalogue_rules::Place;
+use image_rules::WordOffset;
 
 // A sound file: its cards, or how many there are.
 fn say_sound(file: &[u8], cards: usize, fields: usize, lists: bool) {
@@ -24,7 +24,7 @@ pub fn judge(path: &[u8], lists: bool) {
         return;
     }
     let n = got.len;
-    match catalogue_file_code::check(&room[..n]) {
+    match catalogue_read::check(&room[..n]) {
         Judged::Refused(why) => refused::file(&room[..n], why),
         Judged::Sound { cards, fields } => say_sound(&room[..n], cards, fields, lists),
     }
@@ -35,7 +35,7 @@ fn put(file: &[u8], address: u64, place: Place) {
     match place {
         Place::Refused(why) => refused::version(file, address, why),
         Place::At { start, len } => {
-            text::told(text::tell(catalogue_lookup_code::part(file, start, len)));
+            text::told(text::tell(catalogue_lookup::part(file, start, len)));
         }
     }
 }
@@ -52,7 +52,7 @@ pub fn latest(path: &[u8], address: &[u8]) {
         return;
     }
     let n = got.len;
-    let place = catalogue_lookup_code::latest(&room[..n], who.value);
+    let place = catalogue_lookup::latest(&room[..n], who.value);
     put(&room[..n], who.value, place);
 }
 
@@ -69,14 +69,14 @@ pub fn given(path: &[u8], address: &[u8], version: &[u8]) {
         return;
     }
     let n = got.len;
-    let place = catalogue_lookup_code::given(&room[..n], who.value, which.value);
+    let place = catalogue_lookup::given(&room[..n], who.value, which.value);
     put(&room[..n], who.value, place);
 }
 
 // A line for a word that differs. Answers whether it was written.
 fn compare_word(old: &[u8], new: &[u8], word: usize) -> bool {
-    let before = eeprom_code::word_at(old, WordOffset(word));
-    let now = eeprom_code::word_at(new, WordOffset(word));
+    let before = image_check::word_at(old, WordOffset(word));
+    let now = image_check::word_at(new, WordOffset(word));
     if before == now {
         return true;
     }
@@ -115,8 +115,8 @@ fn put_changes(file: &[u8], address: u64, old: Place, new: Place) {
         } => match new {
             Place::Refused(why) => refused::version(file, address, why),
             Place::At { start, len } => compare(
-                catalogue_lookup_code::part(file, first, size),
-                catalogue_lookup_code::part(file, start, len),
+                catalogue_lookup::part(file, first, size),
+                catalogue_lookup::part(file, start, len),
             ),
         },
     }
@@ -136,8 +136,8 @@ pub fn diff(path: &[u8], address: &[u8], old: &[u8], new: &[u8]) {
         return;
     }
     let n = got.len;
-    let first = catalogue_lookup_code::given(&room[..n], who.value, before.value);
-    let second = catalogue_lookup_code::given(&room[..n], who.value, now.value);
+    let first = catalogue_lookup::given(&room[..n], who.value, before.value);
+    let second = catalogue_lookup::given(&room[..n], who.value, now.value);
     put_changes(&room[..n], who.value, first, second);
 }
 
@@ -159,10 +159,10 @@ pub fn lookup(override_path: &[u8], path: &[u8], address: &[u8]) {
     }
     let n = first.len;
     let k = second.len;
-    let hit = catalogue_lookup_code::lookup(&own[..n], &main[..k], who.value);
+    let hit = catalogue_lookup::lookup(&own[..n], &main[..k], who.value);
     if let Hit::Nowhere(why) = hit {
         refused::lookup(&own[..n], override_path, &main[..k], path, why);
         return;
     }
-    text::told(text::tell(catalogue_lookup_code::image_of(&own[..n], &main[..k], hit)));
+    text::told(text::tell(catalogue_lookup::image_of(&own[..n], &main[..k], hit)));
 }

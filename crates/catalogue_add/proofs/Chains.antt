@@ -6,11 +6,11 @@ use mathlib.Core.List.{List, _∷_, _++_, append-assoc}
 use native.Mathlib.Omega.{arith}
 use lib.ListN.{length, take, drop, length-append, length-drop}
 use lib.Seq.{length-take-le}
-use Rattle.fields.specs.Field.{field, bytesOf}
-use Rattle.archive.specs.Archive.{addressIn}
-use Rattle.changes.specs.Edit.{versionFields}
-use Rattle.catalogue_put.specs.Put.{putAt}
-use Rattle.catalogue_put.proofs.Chain.{both-put, version-length}
+use Rattle.catalogue_rules.specs.Field.{field, bytesOf}
+use Rattle.catalogue_rules.specs.Archive.{addressIn}
+use Rattle.catalogue_rules.specs.Edit.{versionFields}
+use Rattle.catalogue_rules.specs.Put.{putAt}
+use Rattle.catalogue_rules.proofs.Chain.{both-put, version-length}
 
 pub card-length : (image : List ℕ) → length image ≡ 128 → length (bytesOf (field 1 (addressIn image) ∷ versionFields 1 image)) ≡ 145
 unfolding bytesOf

@@ -8,30 +8,30 @@ use native.Mathlib.Omega.{arith}
 use borrow.Author.Tests.{lt-ltb, le-ltb, le-leb, ltb-true, ltb-false, leb-false, eq-eqb, ne-eqb}
 use lib.ListN.{length}
 use lib.Dec.{eqb, ltb, leb}
-use Rattle.laws.proofs.Tests.{neither}
+use Rattle.bits.proofs.Tests.{neither}
 use Rattle.refusal.specs.declared.Refusal.{Refusal}
 use Rattle.refusal.specs.declared.Refusal.the-variants.{ArgumentOutside, LengthOutside, NoPlace, ListedTwice}
-use Rattle.eeprom.specs.declared.Checked.{Checked}
-use Rattle.eeprom.specs.declared.Checked.the-variants as checked
-use Rattle.eeprom.specs.Image.{checkOf}
-use Rattle.fields.specs.Field.{Field, field, fieldsOf}
-use Rattle.catalogue_file.specs.declared.Judged.the-variants as told
-use Rattle.catalogue_file.specs.Turns.{addressOf}
-use Rattle.catalogue_file.specs.Reading.{Reading, catalogue, refused, parsed, hasRoom, fileOf, addressesOf, isAmong, anyTwice, read, judged}
-use Rattle.catalogue_file.specs.Cards.{versionsAt}
-use Rattle.catalogue_lookup.specs.declared.Seek.the-variants.{Behind, Missing}
-use Rattle.catalogue_file.proofs.Checked.{is-read}
-use Rattle.catalogue_lookup.proofs.Accepted.{addresses-parsed}
-use Rattle.catalogue_lookup.proofs.Ways.{is-crowd}
-use Rattle.archive.specs.Archive.{addressIn}
-use Rattle.changes.specs.Edit as edit
-use Rattle.changes.specs.Edit.{Change, orElse, ifSound, onCatalogue, versionFields, withVersion, latestNumber, whose, noVersion, noCard, withAdded, addedTo, added}
-use Rattle.catalogue_put.specs.declared.Written.{Written}
-use Rattle.catalogue_put.specs.declared.Written.the-variants as written
-use Rattle.catalogue_put.specs.Put.{putAt, answerOf, areaAfter}
-use Rattle.catalogue_put.specs.Contracts.{Writes}
-use Rattle.catalogue_put.proofs.Chain.{put-front}
-use Rattle.catalogue_places.specs.Places.{seekIf, cardPlace}
+use Rattle.image_rules.specs.declared.Checked.{Checked}
+use Rattle.image_rules.specs.declared.Checked.the-variants as checked
+use Rattle.image_rules.specs.Image.{checkOf}
+use Rattle.catalogue_rules.specs.Field.{Field, field, fieldsOf}
+use Rattle.catalogue_rules.specs.declared.Judged.the-variants as told
+use Rattle.catalogue_rules.specs.Turns.{addressOf}
+use Rattle.catalogue_rules.specs.Reading.{Reading, catalogue, refused, parsed, hasRoom, fileOf, addressesOf, isAmong, anyTwice, read, judged}
+use Rattle.catalogue_rules.specs.Cards.{versionsAt}
+use Rattle.catalogue_rules.specs.declared.Seek.the-variants.{Behind, Missing}
+use Rattle.catalogue_rules.proofs.Checked.{is-read}
+use Rattle.catalogue_rules.proofs.Accepted.{addresses-parsed}
+use Rattle.catalogue_rules.proofs.Ways.{is-crowd}
+use Rattle.catalogue_rules.specs.Archive.{addressIn}
+use Rattle.catalogue_rules.specs.Edit as edit
+use Rattle.catalogue_rules.specs.Edit.{Change, orElse, ifSound, onCatalogue, versionFields, withVersion, latestNumber, whose, noVersion, noCard, withAdded, addedTo, added}
+use Rattle.catalogue_rules.specs.declared.Written.{Written}
+use Rattle.catalogue_rules.specs.declared.Written.the-variants as written
+use Rattle.catalogue_rules.specs.Put.{putAt, answerOf, areaAfter}
+use Rattle.catalogue_rules.specs.PutContracts.{Writes}
+use Rattle.catalogue_rules.proofs.Chain.{put-front}
+use Rattle.catalogue_put.specs.Places.{seekIf, cardPlace}
 use Rattle.catalogue_add.specs.Taken.{Parsed}
 
 pub does-refuse : (change : Change) (why : Refusal) (area : List ℕ) → change ≡ edit.no why → Writes change (written.Refused why) area area

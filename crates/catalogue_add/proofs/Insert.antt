@@ -8,15 +8,15 @@ use native.Mathlib.Omega.{arith}
 use borrow.Author.Tests.{not-true}
 use lib.ListN.{length, take, drop, length-append}
 use lib.Dec.{eqb}
-use Rattle.fields.specs.Field.{Field, sizeOf, field, written, bytesOf}
-use Rattle.fields.proofs.Append.{bytes-append}
-use Rattle.catalogue_file.specs.declared.Turn.{Turn}
-use Rattle.catalogue_file.specs.Turns.{addressOf, after, isDamaged}
-use Rattle.catalogue_file.specs.Reading.{addressesOf, isAmong}
-use Rattle.catalogue_file.proofs.Bools.{and-left, and-right}
-use Rattle.catalogue_laws.specs.RoundTrip.{inTurn}
-use Rattle.changes.specs.Edit.{atCardsEnd, withVersion}
-use Rattle.catalogue_places.specs.Places.{cardPlace, cardEnd}
+use Rattle.catalogue_rules.specs.Field.{Field, sizeOf, field, written, bytesOf}
+use Rattle.catalogue_rules.proofs.Append.{bytes-append}
+use Rattle.catalogue_rules.specs.declared.Turn.{Turn}
+use Rattle.catalogue_rules.specs.Turns.{addressOf, after, isDamaged}
+use Rattle.catalogue_rules.specs.Reading.{addressesOf, isAmong}
+use Rattle.catalogue_rules.proofs.Bools.{and-left, and-right}
+use Rattle.catalogue_rules.specs.RoundTrip.{inTurn}
+use Rattle.catalogue_rules.specs.Edit.{atCardsEnd, withVersion}
+use Rattle.catalogue_put.specs.Places.{cardPlace, cardEnd}
 use Rattle.catalogue_add.proofs.Runs.{take-size, drop-size, behindCard}
 
 -- None of the fields is a count.

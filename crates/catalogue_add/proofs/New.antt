@@ -7,15 +7,15 @@ use mathlib.Core.List.{List, [], _∷_, _++_}
 use native.Mathlib.Omega.{arith}
 use lib.ListN.{length, take, drop, length-append, length-drop}
 use lib.Seq.{length-take-le}
-use Rattle.fields.specs.Field.{Field, field, bytesOf, fieldsOf}
-use Rattle.catalogue_file.specs.Reading.{catalogue, countField, fileOf, addressesOf, isAmong, parsed, read}
-use Rattle.catalogue_file.specs.Cards.{versionsFrom, versionsAt}
-use Rattle.catalogue_laws.specs.RoundTrip.{Bytes}
-use Rattle.catalogue_lookup.proofs.Accepted.{addresses-read}
-use Rattle.archive.specs.Archive.{addressIn}
-use Rattle.changes.specs.Edit.{versionFields, withVersion}
-use Rattle.catalogue_put.proofs.Chain.{version-length}
-use Rattle.catalogue_places.specs.Places.{cardPlace, cardEnd}
+use Rattle.catalogue_rules.specs.Field.{Field, field, bytesOf, fieldsOf}
+use Rattle.catalogue_rules.specs.Reading.{catalogue, countField, fileOf, addressesOf, isAmong, parsed, read}
+use Rattle.catalogue_rules.specs.Cards.{versionsFrom, versionsAt}
+use Rattle.catalogue_rules.specs.RoundTrip.{Bytes}
+use Rattle.catalogue_rules.proofs.Accepted.{addresses-read}
+use Rattle.catalogue_rules.specs.Archive.{addressIn}
+use Rattle.catalogue_rules.specs.Edit.{versionFields, withVersion}
+use Rattle.catalogue_rules.proofs.Chain.{version-length}
+use Rattle.catalogue_put.specs.Places.{cardPlace, cardEnd}
 use Rattle.catalogue_add.proofs.Runs.{behindCard}
 use Rattle.catalogue_add.proofs.Whole.{card-bound, count-length, file-length, before-count, take-before, take-behind, no-count, versions-there, end-there, card-file, version-file}
 use Rattle.catalogue_add.proofs.Chains.{card-length}

@@ -8,12 +8,12 @@ use native.Mathlib.Omega.{arith}
 use lib.ListN.{length, take, drop}
 use lib.Seq.{take-append-add, drop-append-add}
 use lib.Dec.{eqb}
-use Rattle.fields.specs.Field.{Field, sizeOf, field, written, fieldsOf}
-use Rattle.fields.proofs.At.{Stands, either-way}
-use Rattle.catalogue_file.specs.Turns.{addressOf}
-use Rattle.catalogue_file.specs.Cards.{Version, versionsFrom, versionsAt}
-use Rattle.changes.specs.Edit.{isCard}
-use Rattle.catalogue_places.specs.Places.{cardPlace}
+use Rattle.catalogue_rules.specs.Field.{Field, sizeOf, field, written, fieldsOf}
+use Rattle.catalogue_rules.proofs.At.{Stands, either-way}
+use Rattle.catalogue_rules.specs.Turns.{addressOf}
+use Rattle.catalogue_rules.specs.Cards.{Version, versionsFrom, versionsAt}
+use Rattle.catalogue_rules.specs.Edit.{isCard}
+use Rattle.catalogue_put.specs.Places.{cardPlace}
 
 pub size-is : (f : Field) → length (written f) ≡ sizeOf f
 size-is f = omega arith

@@ -8,19 +8,19 @@ use native.Mathlib.Omega.{arith}
 use lib.ListN.{length, take, drop, length-append, length-drop}
 use lib.Seq.{take-at, take-append-le, drop-append-le}
 use lib.Dec.{eqb}
-use Rattle.fields.specs.Field.{Field, sizeOf, field, written, bytesOf, fieldsOf}
-use Rattle.fields.proofs.Append.{bytes-append}
-use Rattle.catalogue_file.specs.declared.Turn.the-variants.{Begun}
-use Rattle.catalogue_file.specs.Turns.{addressOf}
-use Rattle.catalogue_file.specs.Reading.{catalogue, countField, fileOf, addressesOf, isAmong, parsed, read}
-use Rattle.catalogue_file.specs.Cards.{versionsFrom, versionsAt}
-use Rattle.catalogue_laws.specs.RoundTrip.{Sizes, WellFormed, Bytes}
-use Rattle.catalogue_laws.proofs.Written.{fields-written, sizes-append}
-use Rattle.catalogue_laws.proofs.Round.{read-is-written}
-use Rattle.catalogue_laws.proofs.Fit.{accepted-is-well-formed}
-use Rattle.catalogue_lookup.proofs.Accepted.{versions-parsed}
-use Rattle.changes.specs.Edit.{isCard, withVersion}
-use Rattle.catalogue_places.specs.Places.{cardPlace, cardEnd}
+use Rattle.catalogue_rules.specs.Field.{Field, sizeOf, field, written, bytesOf, fieldsOf}
+use Rattle.catalogue_rules.proofs.Append.{bytes-append}
+use Rattle.catalogue_rules.specs.declared.Turn.the-variants.{Begun}
+use Rattle.catalogue_rules.specs.Turns.{addressOf}
+use Rattle.catalogue_rules.specs.Reading.{catalogue, countField, fileOf, addressesOf, isAmong, parsed, read}
+use Rattle.catalogue_rules.specs.Cards.{versionsFrom, versionsAt}
+use Rattle.catalogue_rules.specs.RoundTrip.{Sizes, WellFormed, Bytes}
+use Rattle.catalogue_rules.proofs.WrittenBack.{fields-written, sizes-append}
+use Rattle.catalogue_rules.proofs.Round.{read-is-written}
+use Rattle.catalogue_rules.proofs.Fit.{accepted-is-well-formed}
+use Rattle.catalogue_rules.proofs.Accepted.{versions-parsed}
+use Rattle.catalogue_rules.specs.Edit.{isCard, withVersion}
+use Rattle.catalogue_put.specs.Places.{cardPlace, cardEnd}
 use Rattle.catalogue_add.proofs.Runs.{behindCard, versions-behind, behind-place}
 use Rattle.catalogue_add.proofs.Insert.{NoCount, in-turn-no-count, version-between, version-count}
 

@@ -6,28 +6,28 @@ ghost use mathlib.Core.Path.{_≡_};
 ghost use mathlib.Core.Bool.{false, true};
 ghost use Prim.Native.Nat.{_+_, _<_, _≤_};
 ghost use lib.ListN.{length};
-ghost use Rattle.fields.specs.Field.{fieldsOf};
-ghost use Rattle.catalogue_file.specs.Turns.{addressOf};
-ghost use Rattle.catalogue_file.specs.Reading.{addressesOf, isAmong, parsed};
-ghost use Rattle.archive.specs.Archive.{addressIn};
-ghost use Rattle.changes.specs.Edit.{onCatalogue, addedTo};
-ghost use Rattle.catalogue_put.specs.Contracts.{Writes, Adds};
-ghost use Rattle.catalogue_places.specs.Places.{cardPlace};
+ghost use Rattle.catalogue_rules.specs.Field.{fieldsOf};
+ghost use Rattle.catalogue_rules.specs.Turns.{addressOf};
+ghost use Rattle.catalogue_rules.specs.Reading.{addressesOf, isAmong, parsed};
+ghost use Rattle.catalogue_rules.specs.Archive.{addressIn};
+ghost use Rattle.catalogue_rules.specs.Edit.{onCatalogue, addedTo};
+ghost use Rattle.catalogue_rules.specs.PutContracts.{Writes, Adds};
+ghost use Rattle.catalogue_put.specs.Places.{cardPlace};
 ghost use Rattle.catalogue_add.specs.Taken.{Parsed};
-use catalogue_file::Judged;
-use catalogue_lookup::Seek;
-use catalogue_put::Written;
-use eeprom::Checked;
-use eeprom::WordOffset;
+use catalogue_rules::Judged;
+use catalogue_rules::Seek;
+use catalogue_rules::Written;
+use image_rules::Checked;
+use image_rules::WordOffset;
 use refusal::Refusal;
 
 // The node address of an image: words 00h to 02h.
 pub fn address_of(image: &[u8]) -> u64
     ensures { λ r. ⌜ r ≡ addressOf (addressIn (now (image .entry))) ⌝ }
 {
-    let high = eeprom_code::word_at(image, WordOffset(0)) as u64;
-    let middle = eeprom_code::word_at(image, WordOffset(1)) as u64;
-    let low = eeprom_code::word_at(image, WordOffset(2)) as u64;
+    let high = image_check::word_at(image, WordOffset(0)) as u64;
+    let middle = image_check::word_at(image, WordOffset(1)) as u64;
+    let low = image_check::word_at(image, WordOffset(2)) as u64;
     (high * 65536 + middle) * 65536 + low
 }
 
@@ -41,10 +41,10 @@ fn add_card(file: &[u8], cards: usize, fields: usize, image: &[u8], out: &mut [u
     if (64 <= cards) | (65532 < fields) {
         return Written::Refused(Refusal::NoPlace);
     }
-    if catalogue_file_code::search::twice(file) {
+    if catalogue_read::twice(file) {
         return Written::Refused(Refusal::ListedTwice);
     }
-    match eeprom_code::check(image) {
+    match image_check::check(image) {
         Checked::Refused(why) => Written::Refused(why),
         Checked::Sound {
             node0: _,
@@ -77,22 +77,22 @@ fn add_version(
     requires { ⌜ (length (now image) ≡ 128) × (length (now file) + 145 ≤ length (now out)) ⌝ }
     ensures { λ r. ⌜ Writes (onCatalogue (parsed (now (file .entry))) (addedTo (now (image .entry)))) r (now (out .entry)) (now (out .exit)) ⌝ }
 {
-    let versions = catalogue_places::versions(file, at);
-    let last = catalogue_places::last_number(file, at);
+    let versions = catalogue_put::versions(file, at);
+    let last = catalogue_put::last_number(file, at);
     if (64 < cards) | ((8 <= versions) | ((65535 <= last) | (65533 < fields))) {
         return Written::Refused(Refusal::NoPlace);
     }
-    if catalogue_file_code::search::twice(file) {
+    if catalogue_read::twice(file) {
         return Written::Refused(Refusal::ListedTwice);
     }
-    match eeprom_code::check(image) {
+    match image_check::check(image) {
         Checked::Refused(why) => Written::Refused(why),
         Checked::Sound {
             node0: _,
             node1: _,
             node2: _,
         } => {
-            let place = catalogue_places::card_end(file, at);
+            let place = catalogue_put::card_end(file, at);
             let number = next_number(last);
             Written::Bytes(write::with_version(file, place, number, fields, image, out))
         }
@@ -112,9 +112,9 @@ pub fn add(file: &[u8], image: &[u8], out: &mut [u8]) -> Written
     if image.len() != 128 {
         return Written::Refused(Refusal::LengthOutside);
     }
-    match catalogue_file_code::parse(file) {
+    match catalogue_read::parse(file) {
         Judged::Refused(why) => Written::Refused(why),
-        Judged::Sound { cards, fields } => match catalogue_places::card_place(
+        Judged::Sound { cards, fields } => match catalogue_put::card_place(
             file,
             address_of(image),
         ) {

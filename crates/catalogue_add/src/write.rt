@@ -3,11 +3,11 @@ ghost use mathlib.Core.Path.{_≡_};
 ghost use mathlib.Core.List.{[], _∷_, _++_};
 ghost use Prim.Native.Nat.{_+_, _-_, _<_, _≤_};
 ghost use lib.ListN.{length, take, drop};
-ghost use Rattle.fields.specs.Field.{field, bytesOf};
-ghost use Rattle.catalogue_file.specs.Reading.{countField};
-ghost use Rattle.archive.specs.Archive.{addressIn};
-ghost use Rattle.changes.specs.Edit.{versionFields};
-ghost use Rattle.catalogue_put.specs.Put.{putAt};
+ghost use Rattle.catalogue_rules.specs.Field.{field, bytesOf};
+ghost use Rattle.catalogue_rules.specs.Reading.{countField};
+ghost use Rattle.catalogue_rules.specs.Archive.{addressIn};
+ghost use Rattle.catalogue_rules.specs.Edit.{versionFields};
+ghost use Rattle.catalogue_rules.specs.Put.{putAt};
 
 // A card with one version before the count of a file that has so many fields before it.
 pub fn with_card(file: &[u8], fields: usize, image: &[u8], out: &mut [u8]) -> usize

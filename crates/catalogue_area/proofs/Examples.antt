@@ -5,12 +5,12 @@ use mathlib.Core.Path.{_≡_, refl, sym, ap, subst}
 use mathlib.Core.List.{List, [], _∷_}
 use native.Mathlib.Omega.{arith}
 use lib.ListN.{length, replicate}
-use Rattle.fields.specs.Field.{Field, field, bytesOf}
-use Rattle.catalogue_file.specs.Turns.{addressOf, after}
-use Rattle.catalogue_file.specs.Reading.{catalogue, read, addressesOf, anyTwice, fileOf}
-use Rattle.catalogue_file.specs.Cards.{versionsFrom, cardsOf}
-use Rattle.catalogue_laws.specs.RoundTrip.{inTurn, Sizes, WellFormed}
-use Rattle.catalogue_laws.proofs.Round.{written-is-read}
+use Rattle.catalogue_rules.specs.Field.{Field, field, bytesOf}
+use Rattle.catalogue_rules.specs.Turns.{addressOf, after}
+use Rattle.catalogue_rules.specs.Reading.{catalogue, read, addressesOf, anyTwice, fileOf}
+use Rattle.catalogue_rules.specs.Cards.{versionsFrom, cardsOf}
+use Rattle.catalogue_rules.specs.RoundTrip.{inTurn, Sizes, WellFormed}
+use Rattle.catalogue_rules.proofs.Round.{written-is-read}
 use Rattle.catalogue_area.specs.Area.{fullSize, enough, AllEight, Full}
 
 full-size : fullSize ≡ 70213

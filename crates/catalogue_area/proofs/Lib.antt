@@ -1,5 +1,5 @@
 -- The law, and its figures by computing.
-mod Sizes
-mod Refusals
-pub mod Suffices
 mod Examples
+mod Refusals
+mod Sizes
+pub mod Suffices

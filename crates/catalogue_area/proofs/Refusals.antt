@@ -6,18 +6,18 @@ use mathlib.Core.Bool.{Bool, true, false, _||_, not}
 use mathlib.Core.List.{List, [], _∷_}
 use lib.ListN.{length}
 use lib.Dec.{eqb}
-use Rattle.laws.proofs.Tests.{never, of-cond}
+use Rattle.bits.proofs.Tests.{never, of-cond}
 use Rattle.refusal.specs.declared.Refusal.{Refusal}
 use Rattle.refusal.specs.declared.Refusal.the-variants.{ArgumentOutside, LengthOutside, MakerWrong, ChecksumWrong, SecondaryWrong, NoSuchCard, NoPlace, ListedTwice}
 use Rattle.refusal.specs.Number.{numberOf}
-use Rattle.eeprom.specs.declared.Checked.{Checked}
-use Rattle.eeprom.specs.Image.{wordAt, checksumOf, secondaryOf, orRefused, checkOf}
-use Rattle.fields.specs.Field.{Field, fieldsOf, leftOf}
-use Rattle.catalogue_file.specs.declared.Turn.{Turn}
-use Rattle.catalogue_file.specs.declared.Turn.the-variants.{Begun}
-use Rattle.catalogue_file.specs.Turns.{after, isDamaged}
-use Rattle.catalogue_file.specs.Reading.{Reading, catalogue, refused, with, isLast, ends, reading, parsed, roomy, read, hasRoom, addressesOf, isAmong, anyTwice, fileOf}
-use Rattle.changes.specs.Edit.{Change, bytes, no, orElse, onCatalogue, ifSound, whose, noPlace, withAdded, addedTo, droppedFrom, anyFor, allSound}
+use Rattle.image_rules.specs.declared.Checked.{Checked}
+use Rattle.image_rules.specs.Image.{wordAt, checksumOf, secondaryOf, orRefused, checkOf}
+use Rattle.catalogue_rules.specs.Field.{Field, fieldsOf, leftOf}
+use Rattle.catalogue_rules.specs.declared.Turn.{Turn}
+use Rattle.catalogue_rules.specs.declared.Turn.the-variants.{Begun}
+use Rattle.catalogue_rules.specs.Turns.{after, isDamaged}
+use Rattle.catalogue_rules.specs.Reading.{Reading, catalogue, refused, with, isLast, ends, reading, parsed, roomy, read, hasRoom, addressesOf, isAmong, anyTwice, fileOf}
+use Rattle.catalogue_rules.specs.Edit.{Change, bytes, no, orElse, onCatalogue, ifSound, whose, noPlace, withAdded, addedTo, droppedFrom, anyFor, allSound}
 
 -- The change is a refusal 12.
 abbrev pub isArea : Change → Bool

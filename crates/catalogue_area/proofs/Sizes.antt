@@ -8,16 +8,16 @@ use native.Mathlib.Omega.{arith}
 use borrow.Author.Tests.{eqb-true, ltb-true, not-true}
 use lib.ListN.{length, length-append}
 use lib.Dec.{eqb, ltb}
-use Rattle.laws.proofs.Tests.{never, both}
-use Rattle.fields.specs.Field.{Field, bytesOf, numberAt}
-use Rattle.catalogue_file.specs.declared.Turn.{Turn}
-use Rattle.catalogue_file.specs.declared.Turn.the-variants.{Begun, Addressed, Numbered, Imaged, Damaged}
-use Rattle.catalogue_file.specs.Turns.{addressOf, afterAddress, afterNumber, afterImage, after, isDamaged}
-use Rattle.catalogue_file.specs.Reading.{catalogue, read, addressesOf, countField, fileOf}
-use Rattle.catalogue_laws.specs.RoundTrip.{Bytes, inTurn, WellFormed}
-use Rattle.catalogue_laws.proofs.Fit.{accepted-is-well-formed}
-use Rattle.catalogue_laws.proofs.Round.{read-is-written}
-use Rattle.changes.specs.Unknown.{isKnown}
+use Rattle.bits.proofs.Tests.{never, both}
+use Rattle.catalogue_rules.specs.Field.{Field, bytesOf, numberAt}
+use Rattle.catalogue_rules.specs.declared.Turn.{Turn}
+use Rattle.catalogue_rules.specs.declared.Turn.the-variants.{Begun, Addressed, Numbered, Imaged, Damaged}
+use Rattle.catalogue_rules.specs.Turns.{addressOf, afterAddress, afterNumber, afterImage, after, isDamaged}
+use Rattle.catalogue_rules.specs.Reading.{catalogue, read, addressesOf, countField, fileOf}
+use Rattle.catalogue_rules.specs.RoundTrip.{Bytes, inTurn, WellFormed}
+use Rattle.catalogue_rules.proofs.Fit.{accepted-is-well-formed}
+use Rattle.catalogue_rules.proofs.Round.{read-is-written}
+use Rattle.catalogue_rules.specs.Unknown.{isKnown}
 use Rattle.catalogue_area.specs.Area.{unknownBytes, fullSize}
 
 -- ---- what a card may still take

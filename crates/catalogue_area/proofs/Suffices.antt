@@ -9,17 +9,17 @@ use native.Mathlib.Omega.{arith}
 use borrow.Author.Tests.{le-ltb, le-leb, eq-eqb}
 use lib.ListN.{length}
 use lib.Dec.{eqb, ltb}
-use Rattle.laws.proofs.Tests.{never}
+use Rattle.bits.proofs.Tests.{never}
 use Rattle.refusal.specs.declared.Refusal.{Refusal}
 use Rattle.refusal.specs.declared.Refusal.the-variants.{ArgumentOutside, LengthOutside, NoPlace, ListedTwice}
-use Rattle.fields.specs.Field.{Field}
-use Rattle.catalogue_file.specs.Turns.{addressOf}
-use Rattle.catalogue_file.specs.Reading.{catalogue, parsed, read, hasRoom, addressesOf, isAmong, anyTwice, fileOf}
-use Rattle.catalogue_file.specs.Cards.{versionsFrom, versionsAt, cardsOf}
-use Rattle.catalogue_file.proofs.Came.{roomy-only}
-use Rattle.catalogue_laws.specs.RoundTrip.{Bytes}
-use Rattle.archive.specs.Archive.{movedIn, movedOut, addressesIn}
-use Rattle.changes.specs.Edit.{Change, bytes, no, orElse, onCatalogue, whose, noVersion, noCard, noPlace, addedTo, added, droppedFrom, dropped, imagesIn, imported, exported}
+use Rattle.catalogue_rules.specs.Field.{Field}
+use Rattle.catalogue_rules.specs.Turns.{addressOf}
+use Rattle.catalogue_rules.specs.Reading.{catalogue, parsed, read, hasRoom, addressesOf, isAmong, anyTwice, fileOf}
+use Rattle.catalogue_rules.specs.Cards.{versionsFrom, versionsAt, cardsOf}
+use Rattle.catalogue_rules.proofs.Came.{roomy-only}
+use Rattle.catalogue_rules.specs.RoundTrip.{Bytes}
+use Rattle.catalogue_rules.specs.Archive.{movedIn, movedOut, addressesIn}
+use Rattle.catalogue_rules.specs.Edit.{Change, bytes, no, orElse, onCatalogue, whose, noVersion, noCard, noPlace, addedTo, added, droppedFrom, dropped, imagesIn, imported, exported}
 use Rattle.catalogue_area.specs.Area.{unknownBytes, enough, AllEight, Full, AreaSuffices}
 use Rattle.catalogue_area.proofs.Sizes.{size}
 use Rattle.catalogue_area.proofs.Refusals.{isArea, not-area, orElse-not, images-not, read-not, parsed-not, addedTo-not, droppedFrom-not}

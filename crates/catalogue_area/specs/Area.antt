@@ -7,12 +7,12 @@ use mathlib.Core.Bool.{cond}
 use mathlib.Core.List.{List, [], _∷_}
 use lib.ListN.{length}
 use Rattle.refusal.specs.declared.Refusal.the-variants.{ArgumentOutside, NoPlace}
-use Rattle.fields.specs.Field.{Field}
-use Rattle.catalogue_file.specs.Reading.{catalogue, read, addressesOf}
-use Rattle.catalogue_file.specs.Cards.{Card, cardsOf}
-use Rattle.catalogue_laws.specs.RoundTrip.{Bytes}
-use Rattle.changes.specs.Edit.{no, added, dropped, imported, exported}
-use Rattle.changes.specs.Unknown.{isKnown}
+use Rattle.catalogue_rules.specs.Field.{Field}
+use Rattle.catalogue_rules.specs.Reading.{catalogue, read, addressesOf}
+use Rattle.catalogue_rules.specs.Cards.{Card, cardsOf}
+use Rattle.catalogue_rules.specs.RoundTrip.{Bytes}
+use Rattle.catalogue_rules.specs.Edit.{no, added, dropped, imported, exported}
+use Rattle.catalogue_rules.specs.Unknown.{isKnown}
 
 -- The bytes that the unknown fields take.
 unfoldable pub unknownBytes : List Field → ℕ

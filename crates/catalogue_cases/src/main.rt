@@ -2,12 +2,12 @@
 // words: its name, two operands, the size of the lent area (or most, for as much as a file may have), and the file that
 // has the bytes it is to write; - for none.
 ghost use Prim.Native.Nat.{_+_, _<_};
-use catalogue_file::Judged;
-use catalogue_lookup::Hit;
-use catalogue_lookup::Place;
-use catalogue_put::Written;
-use catalogue_text::files;
-use catalogue_text::text;
+use catalogue_lib::files;
+use catalogue_lib::text;
+use catalogue_rules::Hit;
+use catalogue_rules::Judged;
+use catalogue_rules::Place;
+use catalogue_rules::Written;
 use libc::STDOUT_FILENO;
 use refusal::Refusal;
 
@@ -21,7 +21,7 @@ fn check(a: &[u8]) {
     let mut room = files::room();
     let got = files::read(a, &mut room);
     let n = got.len;
-    match catalogue_file_code::check(&room[..n]) {
+    match catalogue_read::check(&room[..n]) {
         Judged::Refused(why) => refused(why),
         Judged::Sound { cards, fields } => text::sound(cards, fields),
     }
@@ -47,7 +47,7 @@ fn latest(a: &[u8], b: &[u8]) {
     let got = files::read(a, &mut room);
     let n = got.len;
     let who = text::address(b);
-    place(catalogue_lookup_code::latest(&room[..n], who.value));
+    place(catalogue_lookup::latest(&room[..n], who.value));
 }
 
 // A version's number stands in the place of the area's size.
@@ -56,7 +56,7 @@ fn given(a: &[u8], b: &[u8], number: u16) {
     let got = files::read(a, &mut room);
     let n = got.len;
     let who = text::address(b);
-    place(catalogue_lookup_code::given(&room[..n], who.value, number));
+    place(catalogue_lookup::given(&room[..n], who.value, number));
 }
 
 // The address stands in the place of the area's size.
@@ -68,7 +68,7 @@ fn lookup(a: &[u8], b: &[u8], address: &[u8]) {
     let second = files::read(b, &mut main);
     let k = second.len;
     let who = text::address(address);
-    match catalogue_lookup_code::lookup(&own[..n], &main[..k], who.value) {
+    match catalogue_lookup::lookup(&own[..n], &main[..k], who.value) {
         Hit::Nowhere(why) => refused(why),
         Hit::InOverride { start, len } => at(b"override, ", start, len),
         Hit::InMain { start, len } => at(b"main, ", start, len),
@@ -85,7 +85,7 @@ fn written(change: Written, out: &[u8], result: &[u8]) {
             let mut room = files::room();
             let got = files::read(result, &mut room);
             let k = got.len;
-            if text::same(catalogue_lookup_code::part(out, 0, n), &room[..k]) {
+            if text::same(catalogue_lookup::part(out, 0, n), &room[..k]) {
                 text::tell(b", those of ");
             } else {
                 text::tell(b", NOT those of ");

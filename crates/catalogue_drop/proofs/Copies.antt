@@ -5,10 +5,10 @@ use mathlib.Core.Path.{_≡_, refl, ap, _∙_}
 use mathlib.Core.List.{List, [], _∷_, _++_, append-assoc}
 use native.Mathlib.Omega.{arith}
 use lib.ListN.{length, length-append, length-take, length-drop}
-use Rattle.fields.specs.Field.{bytesOf}
-use Rattle.catalogue_file.specs.Reading.{countField}
-use Rattle.catalogue_put.specs.Put.{putAt}
-use Rattle.catalogue_put.proofs.Chain.{both-put, put-front}
+use Rattle.catalogue_rules.specs.Field.{bytesOf}
+use Rattle.catalogue_rules.specs.Reading.{countField}
+use Rattle.catalogue_rules.specs.Put.{putAt}
+use Rattle.catalogue_rules.proofs.Chain.{both-put, put-front}
 use Rattle.catalogue_drop.specs.Around.{between, around, begins, InOrder}
 
 pub length-between : (from to : ℕ) (file : List ℕ) → to ≤ length file → length (between from to file) ≡ to - from

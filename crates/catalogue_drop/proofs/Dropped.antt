@@ -10,18 +10,18 @@ use lib.ListN.{length, drop}
 use lib.Dec.{ltb, leb}
 use Rattle.refusal.specs.declared.Refusal.{Refusal}
 use Rattle.refusal.specs.declared.Refusal.the-variants.{ArgumentOutside, NoSuchCard, NoPlace, ListedTwice}
-use Rattle.fields.specs.Field.{Field, fieldsOf}
-use Rattle.catalogue_file.specs.declared.Judged.the-variants.{Sound, Refused}
-use Rattle.catalogue_file.specs.Reading.{Reading, catalogue, refused, parsed, addressesOf, isAmong, anyTwice, fileOf, read, judged}
-use Rattle.catalogue_file.specs.Cards.{versionsFrom}
-use Rattle.catalogue_laws.specs.RoundTrip.{Bytes}
-use Rattle.catalogue_lookup.specs.declared.Seek.the-variants as seek
-use Rattle.catalogue_file.proofs.Checked.{is-read}
-use Rattle.catalogue_lookup.proofs.Accepted.{addresses-parsed}
-use Rattle.changes.specs.Edit.{Change, bytes, no, orElse, onCatalogue, withoutVersion, droppedFrom, dropped}
-use Rattle.catalogue_places.specs.Places.{cardPlace, fieldPlace, seekIf}
-use Rattle.catalogue_put.specs.declared.Written.{Written}
-use Rattle.catalogue_put.specs.Put.{answerOf, areaAfter}
+use Rattle.catalogue_rules.specs.Field.{Field, fieldsOf}
+use Rattle.catalogue_rules.specs.declared.Judged.the-variants.{Sound, Refused}
+use Rattle.catalogue_rules.specs.Reading.{Reading, catalogue, refused, parsed, addressesOf, isAmong, anyTwice, fileOf, read, judged}
+use Rattle.catalogue_rules.specs.Cards.{versionsFrom}
+use Rattle.catalogue_rules.specs.RoundTrip.{Bytes}
+use Rattle.catalogue_rules.specs.declared.Seek.the-variants as seek
+use Rattle.catalogue_rules.proofs.Checked.{is-read}
+use Rattle.catalogue_rules.proofs.Accepted.{addresses-parsed}
+use Rattle.catalogue_rules.specs.Edit.{Change, bytes, no, orElse, onCatalogue, withoutVersion, droppedFrom, dropped}
+use Rattle.catalogue_put.specs.Places.{cardPlace, fieldPlace, seekIf}
+use Rattle.catalogue_rules.specs.declared.Written.{Written}
+use Rattle.catalogue_rules.specs.Put.{answerOf, areaAfter}
 use Rattle.catalogue_drop.specs.Around.{around, begins, numberPlace, imagePlace, newFile, Behind}
 use Rattle.catalogue_drop.proofs.Law.{is-behind, is-new}
 

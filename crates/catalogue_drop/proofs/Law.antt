@@ -8,18 +8,18 @@ use native.Mathlib.Omega.{arith}
 use borrow.Author.Tests.{le-ltb}
 use lib.ListN.{length, drop, length-append}
 use lib.Dec.{eqb, ltb}
-use Rattle.fields.specs.Field.{Field, sizeOf, field, written, bytesOf, fieldsOf}
-use Rattle.fields.proofs.Append.{bytes-append}
-use Rattle.catalogue_file.specs.declared.Turn.the-variants.{Begun}
-use Rattle.catalogue_file.specs.Reading.{catalogue, read, countField, fileOf, addressesOf, isAmong}
-use Rattle.catalogue_file.specs.Cards.{Version, versionsFrom}
-use Rattle.catalogue_laws.specs.RoundTrip.{Sizes, WellFormed, Bytes}
-use Rattle.catalogue_laws.proofs.Written.{fields-written, sizes-append}
-use Rattle.catalogue_laws.proofs.Round.{read-is-written}
-use Rattle.catalogue_laws.proofs.Fit.{accepted-is-well-formed}
-use Rattle.catalogue_lookup.proofs.Accepted.{from-append}
-use Rattle.changes.specs.Edit.{withoutOldest, leaves, withoutVersion}
-use Rattle.catalogue_places.specs.Places.{cardPlace, fieldPlace}
+use Rattle.catalogue_rules.specs.Field.{Field, sizeOf, field, written, bytesOf, fieldsOf}
+use Rattle.catalogue_rules.proofs.Append.{bytes-append}
+use Rattle.catalogue_rules.specs.declared.Turn.the-variants.{Begun}
+use Rattle.catalogue_rules.specs.Reading.{catalogue, read, countField, fileOf, addressesOf, isAmong}
+use Rattle.catalogue_rules.specs.Cards.{Version, versionsFrom}
+use Rattle.catalogue_rules.specs.RoundTrip.{Sizes, WellFormed, Bytes}
+use Rattle.catalogue_rules.proofs.WrittenBack.{fields-written, sizes-append}
+use Rattle.catalogue_rules.proofs.Round.{read-is-written}
+use Rattle.catalogue_rules.proofs.Fit.{accepted-is-well-formed}
+use Rattle.catalogue_rules.proofs.Accepted.{from-append}
+use Rattle.catalogue_rules.specs.Edit.{withoutOldest, leaves, withoutVersion}
+use Rattle.catalogue_put.specs.Places.{cardPlace, fieldPlace}
 use Rattle.catalogue_drop.specs.Around.{around, numberPlace, imagePlace, newFile, Behind}
 use Rattle.catalogue_drop.proofs.Oldest.{Image, Oldest, Listed, listed-of}
 use Rattle.catalogue_drop.proofs.Pieces.{fields-behind, bytes-before, long, left-over}

@@ -1,6 +1,6 @@
 -- Laws of dropping a version.
-mod Oldest
-mod Pieces
-mod Law
 mod Copies
 mod Dropped
+mod Law
+mod Oldest
+mod Pieces

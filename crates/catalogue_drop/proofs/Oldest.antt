@@ -8,16 +8,16 @@ use native.Mathlib.Omega.{arith}
 use borrow.Author.Tests.{eqb-true, not-true}
 use lib.ListN.{length, length-append}
 use lib.Dec.{eqb}
-use Rattle.fields.specs.Field.{Field, sizeOf, field, bytesOf, numberAt}
-use Rattle.catalogue_file.specs.declared.Turn.{Turn}
-use Rattle.catalogue_file.specs.declared.Turn.the-variants.{Begun, Addressed, Numbered, Imaged, Damaged}
-use Rattle.catalogue_file.specs.Turns.{addressOf, afterAddress, after, isDamaged}
-use Rattle.catalogue_file.specs.Reading.{addressesOf, isAmong}
-use Rattle.catalogue_file.specs.Cards.{versionsFrom}
-use Rattle.catalogue_file.proofs.Bools.{and-left, and-right}
-use Rattle.catalogue_laws.specs.RoundTrip.{inTurn}
-use Rattle.changes.specs.Edit.{isCard, withoutImage, withoutOldest, leaves, withoutVersion}
-use Rattle.catalogue_places.specs.Places.{cardPlace, fieldPlace}
+use Rattle.catalogue_rules.specs.Field.{Field, sizeOf, field, bytesOf, numberAt}
+use Rattle.catalogue_rules.specs.declared.Turn.{Turn}
+use Rattle.catalogue_rules.specs.declared.Turn.the-variants.{Begun, Addressed, Numbered, Imaged, Damaged}
+use Rattle.catalogue_rules.specs.Turns.{addressOf, afterAddress, after, isDamaged}
+use Rattle.catalogue_rules.specs.Reading.{addressesOf, isAmong}
+use Rattle.catalogue_rules.specs.Cards.{versionsFrom}
+use Rattle.catalogue_rules.proofs.Bools.{and-left, and-right}
+use Rattle.catalogue_rules.specs.RoundTrip.{inTurn}
+use Rattle.catalogue_rules.specs.Edit.{isCard, withoutImage, withoutOldest, leaves, withoutVersion}
+use Rattle.catalogue_put.specs.Places.{cardPlace, fieldPlace}
 
 -- ---- one field in turn
 

@@ -6,11 +6,11 @@ use mathlib.Core.List.{List, [], _∷_, _++_, append-assoc}
 use native.Mathlib.Omega.{arith}
 use lib.ListN.{length, take, drop, length-append}
 use lib.Seq.{take-at, drop-at}
-use Rattle.fields.specs.Field.{Field, written, bytesOf, fieldsOf}
-use Rattle.fields.proofs.Append.{bytes-append}
-use Rattle.catalogue_file.specs.Reading.{countField}
-use Rattle.catalogue_laws.specs.RoundTrip.{Sizes}
-use Rattle.catalogue_laws.proofs.Written.{fields-written}
+use Rattle.catalogue_rules.specs.Field.{Field, written, bytesOf, fieldsOf}
+use Rattle.catalogue_rules.proofs.Append.{bytes-append}
+use Rattle.catalogue_rules.specs.Reading.{countField}
+use Rattle.catalogue_rules.specs.RoundTrip.{Sizes}
+use Rattle.catalogue_rules.proofs.WrittenBack.{fields-written}
 use Rattle.catalogue_drop.specs.Around.{between, around}
 
 sizes-behind : (xs ys : List Field) → Sizes (xs ++ ys) → Sizes ys

@@ -6,10 +6,10 @@ use mathlib.Core.Bool.{cond}
 use mathlib.Core.List.{List, [], _∷_, _++_}
 use lib.ListN.{length, take, drop}
 use lib.Dec.{ltb}
-use Rattle.fields.specs.Field.{bytesOf, fieldsOf}
-use Rattle.catalogue_file.specs.Reading.{countField}
-use Rattle.catalogue_file.specs.Cards.{versionsFrom}
-use Rattle.catalogue_places.specs.Places.{fieldPlace}
+use Rattle.catalogue_rules.specs.Field.{bytesOf, fieldsOf}
+use Rattle.catalogue_rules.specs.Reading.{countField}
+use Rattle.catalogue_rules.specs.Cards.{versionsFrom}
+use Rattle.catalogue_put.specs.Places.{fieldPlace}
 
 -- The bytes from one place up to another.
 abbrev pub between : ℕ → ℕ → List ℕ → List ℕ

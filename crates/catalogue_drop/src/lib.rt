@@ -2,12 +2,12 @@
 ghost use mathlib.Core.Path.{_≡_};
 ghost use Prim.Native.Nat.{_+_, _-_, _≤_};
 ghost use lib.ListN.{length};
-ghost use Rattle.catalogue_put.specs.Put.{putAt};
-ghost use Rattle.catalogue_put.specs.Contracts.{Drops};
+ghost use Rattle.catalogue_rules.specs.Put.{putAt};
+ghost use Rattle.catalogue_rules.specs.PutContracts.{Drops};
 ghost use Rattle.catalogue_drop.specs.Around.{between, around, begins, newFile, InOrder, Behind};
-use catalogue_file::Judged;
-use catalogue_lookup::Seek;
-use catalogue_put::Written;
+use catalogue_rules::Judged;
+use catalogue_rules::Seek;
+use catalogue_rules::Written;
 use refusal::Refusal;
 
 // Drops a card's oldest version; a card leaves with its last. The unknown fields stay. 12, 15, 16, 17, 18, 19.
@@ -17,15 +17,15 @@ pub fn drop_oldest(file: &[u8], address: u64, out: &mut [u8]) -> Written
     if out.len() < file.len() {
         return Written::Refused(Refusal::ArgumentOutside);
     }
-    match catalogue_file_code::parse(file) {
+    match catalogue_read::parse(file) {
         Judged::Refused(why) => Written::Refused(why),
-        Judged::Sound { cards, fields } => match catalogue_places::card_place(file, address) {
+        Judged::Sound { cards, fields } => match catalogue_put::card_place(file, address) {
             Seek::Missing => Written::Refused(Refusal::NoSuchCard),
             Seek::Behind(at) => {
                 if 64 < cards {
                     return Written::Refused(Refusal::NoPlace);
                 }
-                if catalogue_file_code::search::twice(file) {
+                if catalogue_read::twice(file) {
                     return Written::Refused(Refusal::ListedTwice);
                 }
                 Written::Bytes(drop_behind(file, at, fields, out))
@@ -40,9 +40,9 @@ fn drop_behind(file: &[u8], at: usize, fields: usize, out: &mut [u8]) -> usize
     requires { ⌜ Behind (now file) at fields × (length (now file) ≤ length (now out)) ⌝ }
     ensures { λ r. ⌜ (r ≡ length (newFile (now (file .entry)) at fields)) × (now (out .exit) ≡ begins (newFile (now (file .entry)) at fields) (now (out .entry))) ⌝ }
 {
-    let number = catalogue_places::field_place(file, at, 2);
-    let image = catalogue_places::field_place(file, number, 3);
-    if catalogue_places::versions(file, at) < 2 {
+    let number = catalogue_put::field_place(file, at, 2);
+    let image = catalogue_put::field_place(file, number, 3);
+    if catalogue_put::versions(file, at) < 2 {
         return copy_around(file, at - 9, at, number, image, fields - 3, out);
     }
     copy_around(file, at, at, number, image, fields - 2, out)

@@ -6,17 +6,17 @@ use mathlib.Core.Bool.{Bool, true, false, cond, _||_, not}
 use mathlib.Core.List.{List}
 use lib.ListN.{length}
 use lib.Dec.{eqb, ltb}
-use Rattle.laws.proofs.Tests.{never}
+use Rattle.bits.proofs.Tests.{never}
 use Rattle.refusal.specs.declared.Refusal.{Refusal}
 use Rattle.refusal.specs.declared.Refusal.the-variants.{ArgumentOutside, LengthOutside, MakerWrong, ChecksumWrong, SecondaryWrong, NoSuchCard, NoPlace, ListedTwice}
-use Rattle.eeprom.specs.declared.Checked.{Checked}
-use Rattle.eeprom.specs.declared.Checked.the-variants as checked
-use Rattle.eeprom.specs.Image.{wordAt, checksumOf, secondaryOf, orRefused, checkOf}
-use Rattle.fields.specs.Field.{Field}
-use Rattle.catalogue_file.specs.Reading.{Reading, catalogue, parsed, read, hasRoom, addressesOf, isAmong, anyTwice, fileOf}
-use Rattle.archive.specs.Archive.{addressesIn, movedOut}
-use Rattle.changes.specs.Edit.{Change, bytes, orElse, onCatalogue, ifSound, whose, noPlace, isFor, anyFor, imagesIn, withAdded, addedTo, added, droppedFrom, dropped, allSound, imported, exported}
-use Rattle.catalogue_put.specs.Put.{answerOf}
+use Rattle.image_rules.specs.declared.Checked.{Checked}
+use Rattle.image_rules.specs.declared.Checked.the-variants as checked
+use Rattle.image_rules.specs.Image.{wordAt, checksumOf, secondaryOf, orRefused, checkOf}
+use Rattle.catalogue_rules.specs.Field.{Field}
+use Rattle.catalogue_rules.specs.Reading.{Reading, catalogue, parsed, read, hasRoom, addressesOf, isAmong, anyTwice, fileOf}
+use Rattle.catalogue_rules.specs.Archive.{addressesIn, movedOut}
+use Rattle.catalogue_rules.specs.Edit.{Change, bytes, orElse, onCatalogue, ifSound, whose, noPlace, isFor, anyFor, imagesIn, withAdded, addedTo, added, droppedFrom, dropped, allSound, imported, exported}
+use Rattle.catalogue_rules.specs.Put.{answerOf}
 use Rattle.catalogue_fits.specs.Tests.{Outcome, fine, because, firstOf, addTests, dropTests, importTests, exportTests}
 use Rattle.catalogue_fits.specs.Fits.{ofWritten}
 use Rattle.catalogue_fits.proofs.Readings.{InTurn, whole, damaged, early, in-turn, roomy-faults}

@@ -5,15 +5,15 @@ use mathlib.Core.Path.{_≡_, refl}
 use mathlib.Core.List.{List, [], _∷_, _++_}
 use lib.ListN.{replicate}
 use Rattle.refusal.specs.declared.Refusal.the-variants.{MakerWrong, NoSuchCard, NoPlace}
-use Rattle.eeprom.specs.Image.{checkOf, wordAt, checksumOf, secondaryOf, xorOf, bothBytes}
-use Rattle.fields.specs.Field.{Field, field, isWhole, fieldsWithin, fieldsOf, leftWithin, leftOf, bytesOf}
-use Rattle.catalogue_file.specs.Turns.{addressOf, after}
-use Rattle.catalogue_file.specs.Reading.{fileOf, reading, addressesOf, anyTwice}
-use Rattle.catalogue_file.specs.Cards.{versionsFrom, versionsAt}
-use Rattle.archive.specs.Archive.{addressesIn}
-use Rattle.changes.specs.Edit.{latestNumber, imagesIn, imagesWithin, anyFor}
-use Rattle.catalogue_lookup.specs.declared.Place.the-variants.{At}
-use Rattle.catalogue_lookup.specs.Lookup.{spotsFrom, spotsAt, lastSpot, numberedSpot, latestIn, givenIn}
+use Rattle.image_rules.specs.Image.{checkOf, wordAt, checksumOf, secondaryOf, xorOf, bothBytes}
+use Rattle.catalogue_rules.specs.Field.{Field, field, isWhole, fieldsWithin, fieldsOf, leftWithin, leftOf, bytesOf}
+use Rattle.catalogue_rules.specs.Turns.{addressOf, after}
+use Rattle.catalogue_rules.specs.Reading.{fileOf, reading, addressesOf, anyTwice}
+use Rattle.catalogue_rules.specs.Cards.{versionsFrom, versionsAt}
+use Rattle.catalogue_rules.specs.Archive.{addressesIn}
+use Rattle.catalogue_rules.specs.Edit.{latestNumber, imagesIn, imagesWithin, anyFor}
+use Rattle.catalogue_rules.specs.declared.Place.the-variants.{At}
+use Rattle.catalogue_rules.specs.Lookup.{spotsFrom, spotsAt, lastSpot, numberedSpot, latestIn, givenIn}
 use Rattle.catalogue_fits.specs.Tests.{because, firstOf, latestTests, addTests, importTests}
 use Rattle.catalogue_fits.specs.Fits.{ofPlace, NothingElseFits}
 

@@ -6,13 +6,13 @@ use mathlib.Core.List.{List}
 use native.Mathlib.Omega.{arith}
 use lib.ListN.{length, take, drop}
 use Rattle.refusal.specs.declared.Refusal.{Refusal}
-use Rattle.catalogue_file.specs.Reading.{parsed, read, judged}
-use Rattle.catalogue_lookup.specs.Lookup.{latestIn, givenIn, lookedUp, shownIn, bytesIn}
-use Rattle.changes.specs.Edit.{Change, bytes, no, added, dropped, imported, exported}
-use Rattle.catalogue_put.specs.declared.Written as written
-use Rattle.catalogue_put.specs.declared.Written.{Written}
-use Rattle.catalogue_put.specs.Put.{answerOf, areaAfter}
-use Rattle.catalogue_put.specs.Contracts.{Writes, Adds, Drops, Imports, Exports}
+use Rattle.catalogue_rules.specs.Reading.{parsed, read, judged}
+use Rattle.catalogue_rules.specs.Lookup.{latestIn, givenIn, lookedUp, shownIn, bytesIn}
+use Rattle.catalogue_rules.specs.Edit.{Change, bytes, no, added, dropped, imported, exported}
+use Rattle.catalogue_rules.specs.declared.Written as written
+use Rattle.catalogue_rules.specs.declared.Written.{Written}
+use Rattle.catalogue_rules.specs.Put.{answerOf, areaAfter}
+use Rattle.catalogue_rules.specs.PutContracts.{Writes, Adds, Drops, Imports, Exports}
 use Rattle.catalogue_fits.specs.Tests.{Test, Outcome, firstOf, checkTests, latestTests, givenTests, lookupTests, addTests, dropTests, importTests, exportTests}
 use Rattle.catalogue_fits.specs.Fits.{ofJudged, ofPlace, ofHit, ofWritten, Only, Answers, Result, Changes, NothingElseFits}
 use Rattle.catalogue_fits.proofs.Readings.{check-exactly}

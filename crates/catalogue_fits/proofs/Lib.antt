@@ -1,7 +1,7 @@
 -- Nothing else fits the catalogue's calls: the proof, call by call, and worked examples of the order.
-mod Readings
-mod Places
-mod Lookups
 mod Edits
-pub mod Fits
 mod Examples
+pub mod Fits
+mod Lookups
+mod Places
+mod Readings

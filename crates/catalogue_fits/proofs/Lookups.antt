@@ -5,11 +5,11 @@ use mathlib.Core.Path.{_≡_, refl, ap, _∙_}
 use mathlib.Core.Bool.{Bool, true, false, cond, _&&_, _||_, not}
 use mathlib.Core.List.{List}
 use Rattle.refusal.specs.declared.Refusal.the-variants.{NoSuchCard, NoPlace, ListedTwice}
-use Rattle.fields.specs.Field.{Field}
-use Rattle.catalogue_file.specs.Reading.{Reading, catalogue, parsed, hasRoom, addressesOf, isAmong, anyTwice}
-use Rattle.catalogue_lookup.specs.declared.Place.{Place}
-use Rattle.catalogue_lookup.specs.declared.Place.the-variants.{At, Refused}
-use Rattle.catalogue_lookup.specs.Lookup.{spotsAt, lastSpot, whereSound, latestIn, givenIn, inOverride, inMain, elseMain, lookedUp}
+use Rattle.catalogue_rules.specs.Field.{Field}
+use Rattle.catalogue_rules.specs.Reading.{Reading, catalogue, parsed, hasRoom, addressesOf, isAmong, anyTwice}
+use Rattle.catalogue_rules.specs.declared.Place.{Place}
+use Rattle.catalogue_rules.specs.declared.Place.the-variants.{At, Refused}
+use Rattle.catalogue_rules.specs.Lookup.{spotsAt, lastSpot, whereSound, latestIn, givenIn, inOverride, inMain, elseMain, lookedUp}
 use Rattle.catalogue_fits.specs.Tests.{Outcome, fine, because, firstOf, latestTests, givenTests, lookupTests}
 use Rattle.catalogue_fits.specs.Fits.{ofPlace, ofHit}
 use Rattle.catalogue_fits.proofs.Readings.{InTurn, whole, damaged, early, in-turn, faults}

@@ -6,16 +6,16 @@ use mathlib.Core.Bool.{Bool, true, false, cond, _&&_, _||_, not}
 use mathlib.Core.List.{List, [], _∷_}
 use lib.ListN.{length}
 use lib.Dec.{eqb}
-use Rattle.laws.proofs.Tests.{never, neither}
+use Rattle.bits.proofs.Tests.{never, neither}
 use Rattle.refusal.specs.declared.Refusal.the-variants.{NoSuchCard}
-use Rattle.fields.specs.Field.{Field, sizeOf, numberAt, fieldsOf, leftOf}
-use Rattle.catalogue_file.specs.Turns.{addressOf}
-use Rattle.catalogue_file.specs.Reading.{catalogue, parsed, addressesOf, isAmong}
-use Rattle.catalogue_file.specs.Cards.{Version, versionsFrom, versionsAt}
-use Rattle.catalogue_lookup.specs.declared.Place.{Place}
-use Rattle.catalogue_lookup.specs.declared.Place.the-variants.{At, Refused}
-use Rattle.catalogue_lookup.specs.Lookup.{Spot, spot, spotsFrom, spotsAt, lastSpot, numberedSpot, whereSound}
-use Rattle.catalogue_lookup.proofs.Listed.{First, listed-has}
+use Rattle.catalogue_rules.specs.Field.{Field, sizeOf, numberAt, fieldsOf, leftOf}
+use Rattle.catalogue_rules.specs.Turns.{addressOf}
+use Rattle.catalogue_rules.specs.Reading.{catalogue, parsed, addressesOf, isAmong}
+use Rattle.catalogue_rules.specs.Cards.{Version, versionsFrom, versionsAt}
+use Rattle.catalogue_rules.specs.declared.Place.{Place}
+use Rattle.catalogue_rules.specs.declared.Place.the-variants.{At, Refused}
+use Rattle.catalogue_rules.specs.Lookup.{Spot, spot, spotsFrom, spotsAt, lastSpot, numberedSpot, whereSound}
+use Rattle.catalogue_rules.proofs.Listed.{First, listed-has}
 use Rattle.catalogue_fits.specs.Tests.{because, isNumbered}
 use Rattle.catalogue_fits.specs.Fits.{ofPlace}
 use Rattle.catalogue_fits.proofs.Readings.{faults}

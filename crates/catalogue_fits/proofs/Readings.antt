@@ -5,13 +5,13 @@ use mathlib.Core.Path.{_≡_, refl}
 use mathlib.Core.Bool.{Bool, true, false, cond, not}
 use mathlib.Core.List.{List, [], _∷_}
 use lib.Dec.{eqb}
-use Rattle.laws.proofs.Tests.{of-cond}
+use Rattle.bits.proofs.Tests.{of-cond}
 use Rattle.refusal.specs.declared.Refusal.the-variants.{FieldDamaged, FileEndsEarly, NoPlace, ListedTwice}
-use Rattle.fields.specs.Field.{Field, fieldsOf, leftOf}
-use Rattle.catalogue_file.specs.declared.Turn.{Turn}
-use Rattle.catalogue_file.specs.declared.Turn.the-variants.{Begun}
-use Rattle.catalogue_file.specs.Turns.{after, isDamaged}
-use Rattle.catalogue_file.specs.Reading.{Reading, catalogue, refused, with, isLast, ends, reading, parsed, read, judged, hasRoom, addressesOf, anyTwice}
+use Rattle.catalogue_rules.specs.Field.{Field, fieldsOf, leftOf}
+use Rattle.catalogue_rules.specs.declared.Turn.{Turn}
+use Rattle.catalogue_rules.specs.declared.Turn.the-variants.{Begun}
+use Rattle.catalogue_rules.specs.Turns.{after, isDamaged}
+use Rattle.catalogue_rules.specs.Reading.{Reading, catalogue, refused, with, isLast, ends, reading, parsed, read, judged, hasRoom, addressesOf, anyTwice}
 use Rattle.catalogue_fits.specs.Tests.{Outcome, fine, because, firstOf, checkTests}
 use Rattle.catalogue_fits.specs.Fits.{ofJudged}
 

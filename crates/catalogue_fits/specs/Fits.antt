@@ -6,17 +6,17 @@ use mathlib.Core.Path.{_≡_}
 use mathlib.Core.List.{List}
 use lib.ListN.{length}
 use Rattle.refusal.specs.declared.Refusal.{Refusal}
-use Rattle.catalogue_file.specs.declared.Judged as judged
-use Rattle.catalogue_file.specs.declared.Judged.{Judged}
-use Rattle.catalogue_file.specs.Contracts.{Checks}
-use Rattle.catalogue_lookup.specs.declared.Place as place
-use Rattle.catalogue_lookup.specs.declared.Place.{Place}
-use Rattle.catalogue_lookup.specs.declared.Hit as hit
-use Rattle.catalogue_lookup.specs.declared.Hit.{Hit}
-use Rattle.catalogue_lookup.specs.Contracts.{Latest, Given, LooksUp, Part, ImageOf}
-use Rattle.catalogue_put.specs.declared.Written as written
-use Rattle.catalogue_put.specs.declared.Written.{Written}
-use Rattle.catalogue_put.specs.Contracts.{Adds, Drops, Imports, Exports}
+use Rattle.catalogue_rules.specs.declared.Judged as judged
+use Rattle.catalogue_rules.specs.declared.Judged.{Judged}
+use Rattle.catalogue_rules.specs.FileContracts.{Checks}
+use Rattle.catalogue_rules.specs.declared.Place as place
+use Rattle.catalogue_rules.specs.declared.Place.{Place}
+use Rattle.catalogue_rules.specs.declared.Hit as hit
+use Rattle.catalogue_rules.specs.declared.Hit.{Hit}
+use Rattle.catalogue_rules.specs.LookupContracts.{Latest, Given, LooksUp, Part, ImageOf}
+use Rattle.catalogue_rules.specs.declared.Written as written
+use Rattle.catalogue_rules.specs.declared.Written.{Written}
+use Rattle.catalogue_rules.specs.PutContracts.{Adds, Drops, Imports, Exports}
 use Rattle.catalogue_fits.specs.Tests.{Test, Outcome, fine, because, firstOf, checkTests, latestTests, givenTests, lookupTests, addTests, dropTests, importTests, exportTests}
 
 -- What an answer says of a refusal.

@@ -1,3 +1,3 @@
 -- Nothing else fits the catalogue's calls.
-pub mod Tests
 pub mod Fits
+pub mod Tests

@@ -8,12 +8,12 @@ use lib.Dec.{eqb, ltb}
 use Rattle.refusal.specs.declared.Refusal.{Refusal}
 use Rattle.refusal.specs.declared.Refusal.the-variants.{LengthOutside, MakerWrong, ChecksumWrong, SecondaryWrong, ArgumentOutside, FieldDamaged, FileEndsEarly, NoSuchCard, NoPlace, ListedTwice}
 use Rattle.refusal.specs.Number.{numberOf}
-use Rattle.eeprom.specs.Image.{checkOf}
-use Rattle.fields.specs.Field.{Field}
-use Rattle.catalogue_file.specs.Reading.{Reading, catalogue, refused, parsed, hasRoom, addressesOf, isAmong, anyTwice}
-use Rattle.catalogue_file.specs.Cards.{Version, versionsAt}
-use Rattle.archive.specs.Archive.{addressesIn}
-use Rattle.changes.specs.Edit.{whose, noPlace, isFor, anyFor, imagesIn}
+use Rattle.image_rules.specs.Image.{checkOf}
+use Rattle.catalogue_rules.specs.Field.{Field}
+use Rattle.catalogue_rules.specs.Reading.{Reading, catalogue, refused, parsed, hasRoom, addressesOf, isAmong, anyTwice}
+use Rattle.catalogue_rules.specs.Cards.{Version, versionsAt}
+use Rattle.catalogue_rules.specs.Archive.{addressesIn}
+use Rattle.catalogue_rules.specs.Edit.{whose, noPlace, isFor, anyFor, imagesIn}
 
 -- A test, with the refusal that it gives.
 pub record Test : Type 0 where

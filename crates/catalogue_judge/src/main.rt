@@ -1,5 +1,5 @@
 // Reads a catalogue's file from standard input and prints `sound`, or `refused ` and the number, or that it is too long.
-use catalogue_file::Judged;
+use catalogue_rules::Judged;
 use libc::STDIN_FILENO;
 use libc::STDOUT_FILENO;
 
@@ -41,5 +41,5 @@ fn main() {
         io::write_all(STDOUT_FILENO, b"larger than 262144 bytes\n");
         return;
     }
-    say(catalogue_file_code::check(&room[..n]));
+    say(catalogue_read::check(&room[..n]));
 }

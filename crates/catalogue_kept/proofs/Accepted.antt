@@ -10,18 +10,18 @@ use lib.ListN.{length, length-append}
 use lib.Dec.{leb, ltb}
 use Rattle.refusal.specs.declared.Refusal.{Refusal}
 use Rattle.refusal.specs.declared.Refusal.the-variants.{NoPlace, NoSuchCard, ListedTwice}
-use Rattle.eeprom.specs.declared.Checked.{Checked}
-use Rattle.eeprom.specs.declared.Checked.the-variants.{Sound, Refused}
-use Rattle.eeprom.specs.Image.{checkOf}
-use Rattle.fields.specs.Field.{Field, field}
-use Rattle.catalogue_file.specs.declared.Turn.the-variants.{Begun}
-use Rattle.catalogue_file.specs.Turns.{addressOf}
-use Rattle.catalogue_file.specs.Reading.{catalogue, hasRoom, addressesOf, isAmong, anyTwice, read, fileOf}
-use Rattle.catalogue_file.specs.Cards.{versionsAt}
-use Rattle.catalogue_laws.specs.RoundTrip.{WellFormed}
-use Rattle.catalogue_laws.proofs.Round.{written-is-read}
-use Rattle.archive.specs.Archive.{addressIn, isSound}
-use Rattle.changes.specs.Edit.{Change, bytes, orElse, ifSound, whose, noVersion, noCard, noPlace, versionFields, withVersion, withAdded, latestNumber, addedTo, withoutVersion, droppedFrom}
+use Rattle.image_rules.specs.declared.Checked.{Checked}
+use Rattle.image_rules.specs.declared.Checked.the-variants.{Sound, Refused}
+use Rattle.image_rules.specs.Image.{checkOf}
+use Rattle.catalogue_rules.specs.Field.{Field, field}
+use Rattle.catalogue_rules.specs.declared.Turn.the-variants.{Begun}
+use Rattle.catalogue_rules.specs.Turns.{addressOf}
+use Rattle.catalogue_rules.specs.Reading.{catalogue, hasRoom, addressesOf, isAmong, anyTwice, read, fileOf}
+use Rattle.catalogue_rules.specs.Cards.{versionsAt}
+use Rattle.catalogue_rules.specs.RoundTrip.{WellFormed}
+use Rattle.catalogue_rules.proofs.Round.{written-is-read}
+use Rattle.catalogue_rules.specs.Archive.{addressIn, isSound}
+use Rattle.catalogue_rules.specs.Edit.{Change, bytes, orElse, ifSound, whose, noVersion, noCard, noPlace, versionFields, withVersion, withAdded, latestNumber, addedTo, withoutVersion, droppedFrom}
 use Rattle.catalogue_kept.specs.Kept.{HasRoom, ChangesAreAccepted}
 use Rattle.catalogue_kept.proofs.Told.{Told, told, in-turn, sizes}
 use Rattle.catalogue_kept.proofs.Parts.{or-left, or-right, part-apart, part-length, apart-more, addresses-append}

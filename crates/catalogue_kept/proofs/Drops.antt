@@ -7,13 +7,13 @@ use mathlib.Core.List.{List, [], _∷_}
 use native.Mathlib.Omega.{arith}
 use lib.ListN.{length}
 use lib.Dec.{eqb}
-use Rattle.fields.specs.Field.{Field, field}
-use Rattle.catalogue_file.specs.declared.Turn.{Turn}
-use Rattle.catalogue_file.specs.declared.Turn.the-variants.{Addressed, Numbered, Imaged}
-use Rattle.catalogue_file.specs.Turns.{addressOf, afterAddress}
-use Rattle.catalogue_file.specs.Reading.{addressesOf}
-use Rattle.catalogue_file.specs.Cards.{Version, versionsFrom}
-use Rattle.changes.specs.Edit.{isCard, withoutImage, withoutOldest, leaves, withoutVersion}
+use Rattle.catalogue_rules.specs.Field.{Field, field}
+use Rattle.catalogue_rules.specs.declared.Turn.{Turn}
+use Rattle.catalogue_rules.specs.declared.Turn.the-variants.{Addressed, Numbered, Imaged}
+use Rattle.catalogue_rules.specs.Turns.{addressOf, afterAddress}
+use Rattle.catalogue_rules.specs.Reading.{addressesOf}
+use Rattle.catalogue_rules.specs.Cards.{Version, versionsFrom}
+use Rattle.catalogue_rules.specs.Edit.{isCard, withoutImage, withoutOldest, leaves, withoutVersion}
 use Rattle.catalogue_kept.proofs.Told.{Other, Told, ends, other, card, first, next, image, no-card, may-stop}
 use Rattle.catalogue_kept.proofs.Versions.{no-if, other-versions, not-card}
 use Rattle.catalogue_kept.proofs.Parts.{Part, all, either, same-behind, part-behind, without, no-address}

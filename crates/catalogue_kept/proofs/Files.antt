@@ -9,16 +9,16 @@ use borrow.Author.Tests.{eqb-true, eq-eqb, ltb-false, not-false}
 use lib.ListN.{length, take, drop, length-take, length-drop}
 use lib.Dec.{eqb, ltb}
 use Rattle.refusal.specs.declared.Refusal.the-variants.{LengthOutside, ArgumentOutside, MakerWrong, ChecksumWrong, SecondaryWrong, NoPlace, ListedTwice}
-use Rattle.eeprom.specs.declared.Checked.the-variants.{Sound}
-use Rattle.eeprom.specs.Image.{orRefused, wordAt, checksumOf, secondaryOf, checkOf}
-use Rattle.fields.specs.Field.{Field}
-use Rattle.catalogue_file.specs.Reading.{Reading, catalogue, refused, parsed, anyTwice, read, fileOf}
-use Rattle.catalogue_file.proofs.Checked.{is-read}
-use Rattle.catalogue_laws.specs.RoundTrip.{Bytes}
-use Rattle.catalogue_laws.proofs.Fit.{accepted-is-well-formed}
-use Rattle.archive.specs.Archive.{movedIn, isSound, AllSound, addressesIn}
-use Rattle.archive.proofs.OutAfter.{out-after-in}
-use Rattle.changes.specs.Edit.{Change, bytes, onCatalogue, isFor, anyFor, withAdded, addedTo, added, withoutVersion, droppedFrom, dropped, imagesWithin, imagesIn, allSound, imported}
+use Rattle.image_rules.specs.declared.Checked.the-variants.{Sound}
+use Rattle.image_rules.specs.Image.{orRefused, wordAt, checksumOf, secondaryOf, checkOf}
+use Rattle.catalogue_rules.specs.Field.{Field}
+use Rattle.catalogue_rules.specs.Reading.{Reading, catalogue, refused, parsed, anyTwice, read, fileOf}
+use Rattle.catalogue_rules.proofs.Checked.{is-read}
+use Rattle.catalogue_rules.specs.RoundTrip.{Bytes}
+use Rattle.catalogue_rules.proofs.Fit.{accepted-is-well-formed}
+use Rattle.catalogue_rules.specs.Archive.{movedIn, isSound, AllSound, addressesIn}
+use Rattle.catalogue_rules.proofs.OutAfter.{out-after-in}
+use Rattle.catalogue_rules.specs.Edit.{Change, bytes, onCatalogue, isFor, anyFor, withAdded, addedTo, added, withoutVersion, droppedFrom, dropped, imagesWithin, imagesIn, allSound, imported}
 use Rattle.catalogue_kept.specs.Kept.{Becomes, WrittenIsTheChanged}
 use Rattle.catalogue_kept.proofs.Parts.{or-left, or-right}
 use Rattle.catalogue_kept.proofs.Accepted.{not-refused, same-bytes, WasAdded, was-added, added-again, WasDropped, was-dropped, dropped-again}

@@ -8,9 +8,9 @@ use native.Mathlib.Omega.{arith}
 use borrow.Author.Tests.{eqb-true, ne-eqb, eqb-false}
 use lib.ListN.{length}
 use lib.Dec.{eqb}
-use Rattle.fields.specs.Field.{Field}
-use Rattle.catalogue_file.specs.Turns.{addressOf}
-use Rattle.catalogue_file.specs.Reading.{addressesOf, isAmong, anyTwice}
+use Rattle.catalogue_rules.specs.Field.{Field}
+use Rattle.catalogue_rules.specs.Turns.{addressOf}
+use Rattle.catalogue_rules.specs.Reading.{addressesOf, isAmong, anyTwice}
 
 pub or-left : (a b : Bool) → a || b ≡ false → a ≡ false
 or-left true b e = absurd (true≢false e)

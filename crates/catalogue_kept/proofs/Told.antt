@@ -8,12 +8,12 @@ use native.Mathlib.Omega.{arith}
 use borrow.Author.Tests.{eqb-true, eq-eqb, ltb-true, lt-ltb, not-true}
 use lib.ListN.{length}
 use lib.Dec.{eqb, ltb}
-use Rattle.fields.specs.Field.{Field, field, numberAt}
-use Rattle.catalogue_file.specs.declared.Turn.{Turn}
-use Rattle.catalogue_file.specs.declared.Turn.the-variants.{Begun, Addressed, Numbered, Imaged, Damaged}
-use Rattle.catalogue_file.specs.Turns.{afterAddress, afterNumber, afterImage, after, mayEnd, isDamaged}
-use Rattle.catalogue_file.proofs.Bools.{and-left, and-right}
-use Rattle.catalogue_laws.specs.RoundTrip.{inTurn, Sizes}
+use Rattle.catalogue_rules.specs.Field.{Field, field, numberAt}
+use Rattle.catalogue_rules.specs.declared.Turn.{Turn}
+use Rattle.catalogue_rules.specs.declared.Turn.the-variants.{Begun, Addressed, Numbered, Imaged, Damaged}
+use Rattle.catalogue_rules.specs.Turns.{afterAddress, afterNumber, afterImage, after, mayEnd, isDamaged}
+use Rattle.catalogue_rules.proofs.Bools.{and-left, and-right}
+use Rattle.catalogue_rules.specs.RoundTrip.{inTurn, Sizes}
 
 -- An unknown field, which leaves the turn as it is.
 pub record Other (f : Field) : Type 0 where

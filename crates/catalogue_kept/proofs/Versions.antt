@@ -7,13 +7,13 @@ use mathlib.Core.List.{List, [], _∷_, _++_}
 use native.Mathlib.Omega.{arith}
 use lib.ListN.{length}
 use lib.Dec.{eqb}
-use Rattle.fields.specs.Field.{Field, field, numberAt}
-use Rattle.catalogue_file.specs.declared.Turn.{Turn}
-use Rattle.catalogue_file.specs.declared.Turn.the-variants.{Begun, Addressed, Numbered, Imaged, Damaged}
-use Rattle.catalogue_file.specs.Turns.{addressOf, afterAddress}
-use Rattle.catalogue_file.specs.Reading.{addressesOf}
-use Rattle.catalogue_file.specs.Cards.{Version, versionsFrom, versionsAt}
-use Rattle.changes.specs.Edit.{versionFields, isCard, atCardsEnd, withVersion, latestNumber}
+use Rattle.catalogue_rules.specs.Field.{Field, field, numberAt}
+use Rattle.catalogue_rules.specs.declared.Turn.{Turn}
+use Rattle.catalogue_rules.specs.declared.Turn.the-variants.{Begun, Addressed, Numbered, Imaged, Damaged}
+use Rattle.catalogue_rules.specs.Turns.{addressOf, afterAddress}
+use Rattle.catalogue_rules.specs.Reading.{addressesOf}
+use Rattle.catalogue_rules.specs.Cards.{Version, versionsFrom, versionsAt}
+use Rattle.catalogue_rules.specs.Edit.{versionFields, isCard, atCardsEnd, withVersion, latestNumber}
 use Rattle.catalogue_kept.proofs.Told.{Other, Told, ends, other, card, first, next, image, no-card, may-begin}
 use Rattle.catalogue_kept.proofs.Parts.{either, same-behind}
 

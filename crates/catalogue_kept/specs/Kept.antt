@@ -5,12 +5,12 @@ use Prim.Native.Nat.{ℕ, _<_}
 use mathlib.Core.Path.{_≡_}
 use mathlib.Core.List.{List}
 use lib.ListN.{length}
-use Rattle.fields.specs.Field.{Field}
-use Rattle.catalogue_file.specs.Reading.{catalogue, read}
-use Rattle.catalogue_file.specs.Cards.{versionsAt}
-use Rattle.catalogue_laws.specs.RoundTrip.{WellFormed, Bytes}
-use Rattle.archive.specs.Archive.{movedIn}
-use Rattle.changes.specs.Edit.{bytes, versionFields, withVersion, withAdded, withoutVersion, latestNumber, addedTo, added, droppedFrom, dropped, imagesIn, imported}
+use Rattle.catalogue_rules.specs.Field.{Field}
+use Rattle.catalogue_rules.specs.Reading.{catalogue, read}
+use Rattle.catalogue_rules.specs.Cards.{versionsAt}
+use Rattle.catalogue_rules.specs.RoundTrip.{WellFormed, Bytes}
+use Rattle.catalogue_rules.specs.Archive.{movedIn}
+use Rattle.catalogue_rules.specs.Edit.{bytes, versionFields, withVersion, withAdded, withoutVersion, latestNumber, addedTo, added, droppedFrom, dropped, imagesIn, imported}
 
 -- A file was read as a catalogue, and another is read as that catalogue, changed.
 pub record Becomes (file after : List ℕ) (change : List Field → List Field) : Type 0 where

@@ -1,2 +1,3 @@
--- What is proved of changed catalogues.
+-- What a change writes is read as the changed catalogue, and what the lookups show behind it.
+pub mod After
 pub mod Kept

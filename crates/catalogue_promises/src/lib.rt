@@ -1,10 +1,10 @@
 // What is promised of catalogues: the round trips, what a lookup shows, what a change leaves and writes, and how much area suffices.
-ghost use Rattle.catalogue_laws.specs.RoundTrip.{WrittenIsRead, ReadIsWritten, AcceptedIsWellFormed};
-ghost use Rattle.catalogue_lookup.specs.Places.{PlacesShow};
-ghost use Rattle.archive.specs.Archive.{OutAfterIn};
-ghost use Rattle.changes.specs.Unknown.{UnknownFieldsStay};
+ghost use Rattle.catalogue_rules.specs.RoundTrip.{WrittenIsRead, ReadIsWritten, AcceptedIsWellFormed};
+ghost use Rattle.catalogue_rules.specs.Places.{PlacesShow};
+ghost use Rattle.catalogue_rules.specs.Archive.{OutAfterIn};
+ghost use Rattle.catalogue_rules.specs.Unknown.{UnknownFieldsStay};
 ghost use Rattle.catalogue_kept.specs.Kept.{ChangesAreAccepted, WrittenIsTheChanged};
-ghost use Rattle.catalogue_after.specs.After.{WhatWasAddedIsTheLatest, ADropTakesTheOldest};
+ghost use Rattle.catalogue_kept.specs.After.{WhatWasAddedIsTheLatest, ADropTakesTheOldest};
 ghost use Rattle.catalogue_area.specs.Area.{AreaSuffices};
 ghost use Rattle.catalogue_fits.specs.Fits.{NothingElseFits};
 

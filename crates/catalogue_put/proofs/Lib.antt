@@ -1,2 +1,3 @@
--- Laws that this crate's proofs and its callers' cite.
-pub mod Chain
+-- Laws of the places and of the counts.
+mod Counted
+mod Passed

@@ -1,3 +1,2 @@
--- What the contracts of `catalogue_put` cite.
-pub mod Put
-pub mod Contracts
+-- What the contracts of `places` cite.
+pub mod Places

@@ -3,20 +3,20 @@ ghost use mathlib.Core.Path.{_≡_};
 ghost use mathlib.Core.List.{List, [], _∷_};
 ghost use Prim.Native.Nat.{_+_, _<_, _≤_};
 ghost use lib.ListN.{length};
-ghost use Rattle.fields.specs.Field.{field, bytesOf};
-ghost use Rattle.catalogue_file.specs.Reading.{countField};
-ghost use Rattle.archive.specs.Archive.{addressIn};
-ghost use Rattle.changes.specs.Edit.{versionFields};
-ghost use Rattle.catalogue_put.specs.Put.{putAt};
+ghost use Rattle.catalogue_rules.specs.Field.{field, bytesOf};
+ghost use Rattle.catalogue_rules.specs.Reading.{countField};
+ghost use Rattle.catalogue_rules.specs.Archive.{addressIn};
+ghost use Rattle.catalogue_rules.specs.Edit.{versionFields};
+ghost use Rattle.catalogue_rules.specs.Put.{putAt};
 use refusal::Refusal;
 
-// What a change of a catalogue answers.
-pub enum Written {
-    // How many bytes of the area are the new file.
-    Bytes(usize),
-    // Number 2, 8 to 10, 12, or 15 to 19.
-    Refused(Refusal),
-}
+pub mod places; // places.rt: where the fields of a card stand in a catalogue's file, and how many versions it has
+
+pub use places::card_end;
+pub use places::card_place;
+pub use places::field_place;
+pub use places::last_number;
+pub use places::versions;
 
 // Puts bytes at a place, and answers the place behind them.
 pub fn bytes(out: &mut [u8], at: usize, src: &[u8]) -> usize

@@ -10,11 +10,11 @@ use lib.ListN.{take, drop}
 use lib.Seq.{drop-drop}
 use lib.Dec.{eqb}
 use Rattle.refusal.specs.declared.Refusal.{Refusal}
-use Rattle.eeprom.specs.Image.{checkOf}
-use Rattle.catalogue_file.specs.Turns.{addressOf}
-use Rattle.catalogue_file.specs.Reading.{isAmong, anyTwice}
-use Rattle.archive.specs.Archive.{addressIn, addressesIn}
-use Rattle.changes.specs.Edit.{imagesWithin, isFor, anyFor}
+use Rattle.image_rules.specs.Image.{checkOf}
+use Rattle.catalogue_rules.specs.Turns.{addressOf}
+use Rattle.catalogue_rules.specs.Reading.{isAmong, anyTwice}
+use Rattle.catalogue_rules.specs.Archive.{addressIn, addressesIn}
+use Rattle.catalogue_rules.specs.Edit.{imagesWithin, isFor, anyFor}
 
 abbrev pub here : List ℕ → ℕ → List ℕ
 here row at = take 128 (drop at row)

@@ -10,24 +10,24 @@ use lib.ListN.{length}
 use lib.Dec.{eqb}
 use Rattle.refusal.specs.declared.Refusal.{Refusal}
 use Rattle.refusal.specs.declared.Refusal.the-variants.{ArgumentOutside}
-use Rattle.fields.specs.Field.{Field, field, numberAt, fieldsOf, leftOf}
-use Rattle.catalogue_file.specs.declared.Turn.{Turn}
-use Rattle.catalogue_file.specs.declared.Turn.the-variants.{Begun, Damaged}
-use Rattle.catalogue_file.specs.declared.Judged.the-variants.{Sound, Refused}
-use Rattle.catalogue_file.specs.Turns.{addressOf, afterAddress, afterNumber, afterImage, after, isDamaged}
-use Rattle.catalogue_file.specs.Reading.{Reading, catalogue, refused, addressesOf, read, judged}
-use Rattle.catalogue_file.specs.Cards.{Version, Card, cardsOf}
-use Rattle.catalogue_file.proofs.Bools.{and-left, and-right}
-use Rattle.catalogue_file.proofs.Came.{Came, came, same-addresses}
-use Rattle.catalogue_laws.specs.RoundTrip.{inTurn, WellFormed}
-use Rattle.catalogue_laws.specs.RoundTrip as law
-use Rattle.catalogue_laws.proofs.Fit.{accepted-is-well-formed}
-use Rattle.catalogue_lookup.proofs.Accepted.{from-append, was-read}
-use Rattle.archive.specs.Archive.{rowOf, imagesOf, movedOut}
-use Rattle.changes.specs.Edit.{onCatalogue, bytes, no, exported}
-use Rattle.catalogue_put.specs.declared.Written as answer
+use Rattle.catalogue_rules.specs.Field.{Field, field, numberAt, fieldsOf, leftOf}
+use Rattle.catalogue_rules.specs.declared.Turn.{Turn}
+use Rattle.catalogue_rules.specs.declared.Turn.the-variants.{Begun, Damaged}
+use Rattle.catalogue_rules.specs.declared.Judged.the-variants.{Sound, Refused}
+use Rattle.catalogue_rules.specs.Turns.{addressOf, afterAddress, afterNumber, afterImage, after, isDamaged}
+use Rattle.catalogue_rules.specs.Reading.{Reading, catalogue, refused, addressesOf, read, judged}
+use Rattle.catalogue_rules.specs.Cards.{Version, Card, cardsOf}
+use Rattle.catalogue_rules.proofs.Bools.{and-left, and-right}
+use Rattle.catalogue_rules.proofs.Came.{Came, came, same-addresses}
+use Rattle.catalogue_rules.specs.RoundTrip.{inTurn, WellFormed}
+use Rattle.catalogue_rules.specs.RoundTrip as law
+use Rattle.catalogue_rules.proofs.Fit.{accepted-is-well-formed}
+use Rattle.catalogue_rules.proofs.Accepted.{from-append, was-read}
+use Rattle.catalogue_rules.specs.Archive.{rowOf, imagesOf, movedOut}
+use Rattle.catalogue_rules.specs.Edit.{onCatalogue, bytes, no, exported}
+use Rattle.catalogue_rules.specs.declared.Written as answer
 use Rattle.catalogue_row.specs.Row.{Images}
-use Rattle.catalogue_put.specs.Contracts.{Writes}
+use Rattle.catalogue_rules.specs.PutContracts.{Writes}
 use Rattle.catalogue_row.proofs.Ways.{refusing, or-else, or-on}
 
 -- ---- an image in turn has 128 bytes

@@ -1,7 +1,7 @@
 -- Laws that this crate's proofs cite.
 mod Each
-mod Putting
-mod Ways
-mod Outward
 mod Fitting
+mod Outward
+mod Putting
 mod Returned
+mod Ways

@@ -10,15 +10,15 @@ use lib.ListN.{length, take, drop, length-append, take-append-drop}
 use lib.Dec.{eqb}
 use Rattle.refusal.specs.declared.Refusal.{Refusal}
 use Rattle.refusal.specs.declared.Refusal.the-variants.{NoSuchCard}
-use Rattle.fields.specs.Field.{Field, field, numberAt, fieldsOf}
-use Rattle.catalogue_file.specs.Turns.{addressOf}
-use Rattle.catalogue_file.specs.Reading.{addressesOf}
-use Rattle.catalogue_file.specs.Cards.{Version, Card, versionsFrom, cardsOf}
-use Rattle.catalogue_lookup.specs.Lookup.{Shown, image, none, bytesIn}
-use Rattle.catalogue_lookup.specs.Places.{lastOf}
-use Rattle.archive.specs.Archive.{rowOf, latestOf, imagesOf, movedOut}
-use Rattle.catalogue_put.specs.Put.{putAt}
-use Rattle.catalogue_put.proofs.Chain.{length-put, put-on}
+use Rattle.catalogue_rules.specs.Field.{Field, field, numberAt, fieldsOf}
+use Rattle.catalogue_rules.specs.Turns.{addressOf}
+use Rattle.catalogue_rules.specs.Reading.{addressesOf}
+use Rattle.catalogue_rules.specs.Cards.{Version, Card, versionsFrom, cardsOf}
+use Rattle.catalogue_rules.specs.Lookup.{Shown, image, none, bytesIn}
+use Rattle.catalogue_rules.specs.Places.{lastOf}
+use Rattle.catalogue_rules.specs.Archive.{rowOf, latestOf, imagesOf, movedOut}
+use Rattle.catalogue_rules.specs.Put.{putAt}
+use Rattle.catalogue_rules.proofs.Chain.{length-put, put-on}
 use Rattle.catalogue_row.specs.Row.{Images, ofField}
 
 -- ---- a card's latest image

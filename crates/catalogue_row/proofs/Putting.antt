@@ -5,13 +5,13 @@ use mathlib.Core.Path.{_≡_, refl, sym, ap, ap₂, _∙_}
 use mathlib.Core.List.{List, [], _∷_, _++_, append-assoc}
 use native.Mathlib.Omega.{arith}
 use lib.ListN.{length, take, drop, length-append, length-take, length-drop}
-use Rattle.fields.specs.Field.{Field, field, written, bytesOf}
-use Rattle.fields.proofs.Append.{bytes-append}
-use Rattle.catalogue_file.specs.Reading.{countField, fileOf}
-use Rattle.archive.specs.Archive.{addressIn, movedIn}
-use Rattle.changes.specs.Edit.{versionFields, imagesWithin}
-use Rattle.catalogue_put.specs.Put.{putAt}
-use Rattle.catalogue_put.proofs.Chain.{length-put, put-on, version-length}
+use Rattle.catalogue_rules.specs.Field.{Field, field, written, bytesOf}
+use Rattle.catalogue_rules.proofs.Append.{bytes-append}
+use Rattle.catalogue_rules.specs.Reading.{countField, fileOf}
+use Rattle.catalogue_rules.specs.Archive.{addressIn, movedIn}
+use Rattle.catalogue_rules.specs.Edit.{versionFields, imagesWithin}
+use Rattle.catalogue_rules.specs.Put.{putAt}
+use Rattle.catalogue_rules.proofs.Chain.{length-put, put-on, version-length}
 use Rattle.catalogue_row.proofs.Each.{here, next-image, no-image, so-many}
 
 -- The fields of a card, and their bytes.

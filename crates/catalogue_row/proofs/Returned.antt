@@ -9,14 +9,14 @@ use lib.ListN.{length, take, drop, length-drop, take-append-drop}
 use lib.Seq.{take-at}
 use Rattle.refusal.specs.declared.Refusal.{Refusal}
 use Rattle.refusal.specs.declared.Refusal.the-variants.{MakerWrong, ChecksumWrong, SecondaryWrong}
-use Rattle.eeprom.specs.declared.Checked as checked
-use Rattle.eeprom.specs.declared.Checked.{Checked}
-use Rattle.eeprom.specs.Image.{checkOf}
-use Rattle.catalogue_file.specs.Reading.{catalogue, read, fileOf, anyTwice}
-use Rattle.archive.specs.Archive.{rowOf, movedIn, movedOut, isSound, AllSound, addressesIn, BackAsItCame}
-use Rattle.archive.proofs.OutAfter.{out-after-in}
-use Rattle.changes.specs.Edit.{Change, bytes, imagesWithin, imagesIn, isFor, anyFor, imported, exported}
-use Rattle.catalogue_put.specs.Put.{answerOf, areaAfter}
+use Rattle.image_rules.specs.declared.Checked as checked
+use Rattle.image_rules.specs.declared.Checked.{Checked}
+use Rattle.image_rules.specs.Image.{checkOf}
+use Rattle.catalogue_rules.specs.Reading.{catalogue, read, fileOf, anyTwice}
+use Rattle.catalogue_rules.specs.Archive.{rowOf, movedIn, movedOut, isSound, AllSound, addressesIn, BackAsItCame}
+use Rattle.catalogue_rules.proofs.OutAfter.{out-after-in}
+use Rattle.catalogue_rules.specs.Edit.{Change, bytes, imagesWithin, imagesIn, isFor, anyFor, imported, exported}
+use Rattle.catalogue_rules.specs.Put.{answerOf, areaAfter}
 use Rattle.catalogue_row.specs.Back.{outAgain, ComesBack, RowComesBack}
 use Rattle.catalogue_row.proofs.Ways.{sound}
 use Rattle.catalogue_row.proofs.Fitting.{exported-fields}

@@ -9,13 +9,13 @@ use lib.ListN.{length}
 use lib.Dec.{eqb, ltb}
 use Rattle.refusal.specs.declared.Refusal.{Refusal}
 use Rattle.refusal.specs.declared.Refusal.the-variants.{LengthOutside, ArgumentOutside, MakerWrong, ChecksumWrong, SecondaryWrong, NoPlace, ListedTwice}
-use Rattle.catalogue_file.specs.Reading.{anyTwice, fileOf}
-use Rattle.archive.specs.Archive.{movedIn, addressesIn}
-use Rattle.changes.specs.Edit.{Change, bytes, no, orElse, imagesWithin, imagesIn, anyFor, allSound, imported}
-use Rattle.catalogue_put.specs.declared.Written.the-variants.{Bytes, Refused}
-use Rattle.catalogue_put.specs.Put.{putAt, answerOf, areaAfter}
-use Rattle.catalogue_put.specs.Contracts.{Writes}
-use Rattle.catalogue_put.proofs.Chain.{put-front}
+use Rattle.catalogue_rules.specs.Reading.{anyTwice, fileOf}
+use Rattle.catalogue_rules.specs.Archive.{movedIn, addressesIn}
+use Rattle.catalogue_rules.specs.Edit.{Change, bytes, no, orElse, imagesWithin, imagesIn, anyFor, allSound, imported}
+use Rattle.catalogue_rules.specs.declared.Written.the-variants.{Bytes, Refused}
+use Rattle.catalogue_rules.specs.Put.{putAt, answerOf, areaAfter}
+use Rattle.catalogue_rules.specs.PutContracts.{Writes}
+use Rattle.catalogue_rules.proofs.Chain.{put-front}
 
 pub refusing : (change : Change) (why : Refusal) → change ≡ no why → (area : List ℕ) → Writes change (Refused why) area area
 refusing change why e area = (ap answerOf (sym e), ap (λ (c : Change). areaAfter c area) (sym e))

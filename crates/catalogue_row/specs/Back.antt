@@ -5,11 +5,11 @@ use mathlib.Core.Path.{_≡_}
 use mathlib.Core.Bool.{false}
 use mathlib.Core.List.{List}
 use lib.ListN.{length, take}
-use Rattle.catalogue_file.specs.Reading.{anyTwice}
-use Rattle.archive.specs.Archive.{AllSound, addressesIn}
-use Rattle.changes.specs.Edit.{Change, imagesIn, imported, exported}
-use Rattle.catalogue_put.specs.declared.Written.the-variants.{Bytes}
-use Rattle.catalogue_put.specs.Put.{answerOf, areaAfter}
+use Rattle.catalogue_rules.specs.Reading.{anyTwice}
+use Rattle.catalogue_rules.specs.Archive.{AllSound, addressesIn}
+use Rattle.catalogue_rules.specs.Edit.{Change, imagesIn, imported, exported}
+use Rattle.catalogue_rules.specs.declared.Written.the-variants.{Bytes}
+use Rattle.catalogue_rules.specs.Put.{answerOf, areaAfter}
 
 -- The first n bytes that an import left in its area, exported.
 abbrev pub outAgain : List ℕ → List ℕ → List ℕ → ℕ → Change

@@ -1,3 +1,3 @@
 -- What the contracts of `catalogue_row` cite.
-pub mod Row
 pub mod Back
+pub mod Row

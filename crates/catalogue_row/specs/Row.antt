@@ -6,9 +6,9 @@ use mathlib.Core.Bool.{cond}
 use mathlib.Core.List.{List, [], _∷_}
 use lib.ListN.{length}
 use lib.Dec.{eqb}
-use Rattle.fields.specs.Field.{Field}
-use Rattle.catalogue_file.specs.Cards.{versionsFrom}
-use Rattle.archive.specs.Archive.{latestOf}
+use Rattle.catalogue_rules.specs.Field.{Field}
+use Rattle.catalogue_rules.specs.Cards.{versionsFrom}
+use Rattle.catalogue_rules.specs.Archive.{latestOf}
 
 -- Every image among the fields has 128 bytes.
 unfoldable pub Images : List Field → Type 0

@@ -2,11 +2,11 @@
 ghost use mathlib.Core.Path.{_≡_};
 ghost use Prim.Native.Nat.{_+_, _*_, _≤_};
 ghost use lib.ListN.{length, take, drop};
-ghost use Rattle.catalogue_file.specs.Turns.{addressOf};
-ghost use Rattle.catalogue_file.specs.Reading.{isAmong, anyTwice};
-ghost use Rattle.archive.specs.Archive.{addressIn, addressesIn};
-ghost use Rattle.changes.specs.Edit.{imagesWithin, isFor, anyFor};
-use eeprom::Checked;
+ghost use Rattle.catalogue_rules.specs.Turns.{addressOf};
+ghost use Rattle.catalogue_rules.specs.Reading.{isAmong, anyTwice};
+ghost use Rattle.catalogue_rules.specs.Archive.{addressIn, addressesIn};
+ghost use Rattle.catalogue_rules.specs.Edit.{imagesWithin, isFor, anyFor};
+use image_rules::Checked;
 use refusal::Refusal;
 
 // The node address of the image at a place.
@@ -14,14 +14,14 @@ fn address_in(archive: &[u8], at: usize) -> u64
     ensures { λ r. ⌜ r ≡ addressOf (addressIn (take 128 (drop at (now (archive .entry))))) ⌝ }
 {
     let node = [
-        fields::value_byte(archive, at, 128, 1),
-        fields::value_byte(archive, at, 128, 0),
-        fields::value_byte(archive, at, 128, 3),
-        fields::value_byte(archive, at, 128, 2),
-        fields::value_byte(archive, at, 128, 5),
-        fields::value_byte(archive, at, 128, 4),
+        catalogue_read::value_byte(archive, at, 128, 1),
+        catalogue_read::value_byte(archive, at, 128, 0),
+        catalogue_read::value_byte(archive, at, 128, 3),
+        catalogue_read::value_byte(archive, at, 128, 2),
+        catalogue_read::value_byte(archive, at, 128, 5),
+        catalogue_read::value_byte(archive, at, 128, 4),
     ];
-    catalogue_file_code::search::address_at(&node, 0, 6)
+    catalogue_read::address_at(&node, 0, 6)
 }
 
 // Whether one of so many images from a place on has the address.
@@ -83,7 +83,7 @@ pub fn any_for(archive: &[u8], images: usize, why: Refusal) -> bool
     let mut untested = images;
     while 0 < untested {
         let next = at + 128;
-        if is_for(eeprom_code::check(&archive[at..next]), why) {
+        if is_for(image_check::check(&archive[at..next]), why) {
             return true;
         }
         at = next;

@@ -2,13 +2,13 @@
 ghost use mathlib.Core.Path.{_≡_};
 ghost use Prim.Native.Nat.{_+_, _*_, _≤_};
 ghost use lib.ListN.{length, drop};
-ghost use Rattle.fields.specs.Field.{fieldsOf};
-ghost use Rattle.catalogue_file.specs.Reading.{addressesOf};
-ghost use Rattle.archive.specs.Archive.{movedOut};
-ghost use Rattle.catalogue_put.specs.Put.{putAt};
+ghost use Rattle.catalogue_rules.specs.Field.{fieldsOf};
+ghost use Rattle.catalogue_rules.specs.Reading.{addressesOf};
+ghost use Rattle.catalogue_rules.specs.Archive.{movedOut};
+ghost use Rattle.catalogue_rules.specs.Put.{putAt};
 ghost use Rattle.catalogue_row.specs.Row.{Images, ofField};
-use catalogue_lookup::Place;
-use fields::Found;
+use catalogue_rules::Found;
+use catalogue_rules::Place;
 
 // Puts a card's latest image where a field is its address, and answers the place behind it.
 fn passed(file: &[u8], tag: u8, next: usize, out: &mut [u8], to: usize) -> usize
@@ -18,10 +18,10 @@ fn passed(file: &[u8], tag: u8, next: usize, out: &mut [u8], to: usize) -> usize
     if tag != 1 {
         return to;
     }
-    match catalogue_lookup_code::walk::newest(file, next) {
+    match catalogue_lookup::newest(file, next) {
         Place::Refused(_) => to,
         Place::At { start, len } => {
-            let image = catalogue_lookup_code::part(file, start, len);
+            let image = catalogue_lookup::part(file, start, len);
             catalogue_put::bytes(out, to, image)
         }
     }
@@ -35,7 +35,7 @@ pub fn row(file: &[u8], out: &mut [u8]) -> usize
     let mut at = 0;
     let mut to = 0;
     loop {
-        match fields::field_at(file, at) {
+        match catalogue_read::field_at(file, at) {
             Found::Cut => {
                 return to;
             }

@@ -3,10 +3,10 @@ mod images;
 mod latest;
 mod moved;
 
-ghost use Rattle.catalogue_put.specs.Contracts.{Imports, Exports};
+ghost use Rattle.catalogue_rules.specs.PutContracts.{Imports, Exports};
 ghost use Rattle.catalogue_row.specs.Back.{RowComesBack};
-use catalogue_file::Judged;
-use catalogue_put::Written;
+use catalogue_rules::Judged;
+use catalogue_rules::Written;
 use refusal::Refusal;
 
 // Moves an archive in: each image becomes version 1 of its card. 12, 2, 18, 19, then 8 to 10.
@@ -49,7 +49,7 @@ pub fn export(file: &[u8], out: &mut [u8]) -> Written
     if out.len() < 8192 {
         return Written::Refused(Refusal::ArgumentOutside);
     }
-    match catalogue_file_code::check(file) {
+    match catalogue_read::check(file) {
         Judged::Refused(why) => Written::Refused(why),
         Judged::Sound {
             cards: _,

@@ -2,10 +2,10 @@
 ghost use mathlib.Core.Path.{_≡_};
 ghost use Prim.Native.Nat.{_+_, _*_, _≤_};
 ghost use lib.ListN.{length};
-ghost use Rattle.catalogue_file.specs.Reading.{fileOf};
-ghost use Rattle.archive.specs.Archive.{movedIn};
-ghost use Rattle.changes.specs.Edit.{imagesWithin};
-ghost use Rattle.catalogue_put.specs.Put.{putAt};
+ghost use Rattle.catalogue_rules.specs.Reading.{fileOf};
+ghost use Rattle.catalogue_rules.specs.Archive.{movedIn};
+ghost use Rattle.catalogue_rules.specs.Edit.{imagesWithin};
+ghost use Rattle.catalogue_rules.specs.Put.{putAt};
 
 // Each image as version 1 of its card, and the count of fields. Answers how many bytes were put.
 pub fn cards(archive: &[u8], images: usize, out: &mut [u8]) -> usize

@@ -1,14 +1,14 @@
 // Which images of an archive, a row of 128 bytes each, are wrong. Images are counted from 1.
 ghost use Prim.Native.Nat.{_≤_};
 ghost use lib.ListN.{length};
-use eeprom::Checked;
+use image_rules::Checked;
 
 // Whether an image is looked for: for 19 one with the address, for another number one whose check answers it.
 fn is_wanted(image: &[u8], number: u8, address: u64) -> bool {
     if number == 19 {
         return catalogue_add::address_of(image) == address;
     }
-    match eeprom_code::check(image) {
+    match image_check::check(image) {
         Checked::Refused(why) => refusal::number(why) == number,
         Checked::Sound {
             node0: _,

@@ -2,8 +2,8 @@
 ghost use Prim.Native.Nat.{_≤_};
 ghost use lib.ListN.{length};
 use crate::step;
-use catalogue_file::Judged;
-use catalogue_lookup::Seek;
+use catalogue_rules::Judged;
+use catalogue_rules::Seek;
 
 // The place of the first field that is cut, or the file's length where it ends between two fields.
 pub fn end(file: &[u8]) -> usize
@@ -21,7 +21,7 @@ pub fn end(file: &[u8]) -> usize
 
 // Whether nothing is wrong but that the rest is missing.
 fn is_only_cut(part: &[u8]) -> bool {
-    match catalogue_file_code::check(part) {
+    match catalogue_read::check(part) {
         Judged::Sound {
             cards: _,
             fields: _,
@@ -77,7 +77,7 @@ fn comes_again(file: &[u8], at: usize, tag: u8, address: u64) -> bool
     requires { ⌜ at ≤ length (now file) ⌝ }
 {
     if tag == 1 {
-        return catalogue_file_code::search::listed(&file[..at], 0, address);
+        return catalogue_read::listed(&file[..at], 0, address);
     }
     false
 }
@@ -92,7 +92,7 @@ pub fn repeated(file: &[u8]) -> Again
         if field.size == 0 {
             return Again { address: 0, at };
         }
-        let address = catalogue_file_code::search::address_at(file, field.start, field.len);
+        let address = catalogue_read::address_at(file, field.start, field.len);
         if comes_again(file, at, field.tag, address) {
             return Again { address, at };
         }
@@ -135,7 +135,7 @@ pub enum Full {
 
 // Why a version of a card does not go in: a ninth version before a number past the last, and both before the count.
 pub fn no_room(file: &[u8], address: u64) -> Full {
-    match catalogue_places::card_place(file, address) {
+    match catalogue_put::card_place(file, address) {
         Seek::Missing => {
             if 64 <= cards(file) {
                 return Full::Cards;
@@ -143,10 +143,10 @@ pub fn no_room(file: &[u8], address: u64) -> Full {
             Full::Fields
         }
         Seek::Behind(at) => {
-            if 8 <= catalogue_places::versions(file, at) {
+            if 8 <= catalogue_put::versions(file, at) {
                 return Full::Versions;
             }
-            if 65535 <= catalogue_places::last_number(file, at) {
+            if 65535 <= catalogue_put::last_number(file, at) {
                 return Full::Numbers;
             }
             Full::Fields

@@ -3,3 +3,12 @@
 pub mod archive;
 pub mod file;
 mod step;
+
+pub use archive::twins;
+pub use archive::unsound;
+pub use file::Full;
+pub use file::cards;
+pub use file::damage;
+pub use file::end;
+pub use file::no_room;
+pub use file::repeated;

@@ -1,7 +1,7 @@
 // A field at a time, in numbers that a loop can go by.
 ghost use Prim.Native.Nat.{_+_, _≤_};
 ghost use lib.ListN.{length};
-use fields::Found;
+use catalogue_rules::Found;
 
 // A field, and the bytes that it takes with the three of its head; none where the file ends first.
 pub struct Step {
@@ -16,7 +16,7 @@ pub fn at(file: &[u8], at: usize) -> Step
     requires { ⌜ at ≤ length (now file) ⌝ }
     ensures { λ r. ⌜ at + r .size ≤ length (now (file .entry)) ⌝ }
 {
-    match fields::field_at(file, at) {
+    match catalogue_read::field_at(file, at) {
         Found::Cut => Step {
             size: 0,
             tag: 0,

@@ -2,30 +2,30 @@
 -- Assumes nothing.
 use Prim.Native.Nat.{ℕ}
 use Rattle.refusal.specs.Number.{numberOf}
-use Rattle.eeprom.specs.declared.Checked.{Checked}
-use Rattle.eeprom.specs.declared.Checked.the-variants as checked
-use Rattle.card.specs.declared.Done.{Done}
-use Rattle.card.specs.declared.Done.the-variants as finished
-use Rattle.card.specs.declared.Read.{Read}
-use Rattle.card.specs.declared.Read.the-variants as read
-use Rattle.card.specs.declared.Told.{Told}
-use Rattle.card.specs.declared.Told.the-variants as told
-use Rattle.card.specs.declared.AfterCall.{AfterCall}
-use Rattle.card.specs.declared.AfterRead.{AfterRead}
-use Rattle.card.specs.declared.AfterSuccess.{AfterSuccess}
-use Rattle.search.specs.declared.Found.{Found}
-use Rattle.search.specs.declared.Activation.{Activation}
-use Rattle.search.specs.declared.AfterSearch.{AfterSearch}
-use Rattle.search.specs.declared.AfterActivation.{AfterActivation}
-use Rattle.opening.specs.declared.OpenAnswer.{OpenAnswer}
-use Rattle.opening.specs.declared.OpenAnswer.the-variants as opening
-use Rattle.opening.specs.declared.Opened.{Opened}
-use Rattle.sending.specs.declared.SendAnswer.{SendAnswer}
-use Rattle.sending.specs.declared.SendAnswer.the-variants as sending
-use Rattle.sending.specs.declared.Sent.{Sent}
-use Rattle.items.specs.declared.Answer.{Answer}
-use Rattle.items.specs.declared.Answer.the-variants as serving
-use Rattle.serving.specs.declared.Serviced.{Serviced}
+use Rattle.image_rules.specs.declared.Checked.{Checked}
+use Rattle.image_rules.specs.declared.Checked.the-variants as checked
+use Rattle.card_rules.specs.declared.Done.{Done}
+use Rattle.card_rules.specs.declared.Done.the-variants as finished
+use Rattle.card_rules.specs.declared.Read.{Read}
+use Rattle.card_rules.specs.declared.Read.the-variants as read
+use Rattle.card_rules.specs.declared.Told.{Told}
+use Rattle.card_rules.specs.declared.Told.the-variants as told
+use Rattle.card_rules.specs.declared.AfterCall.{AfterCall}
+use Rattle.card_rules.specs.declared.AfterRead.{AfterRead}
+use Rattle.card_rules.specs.declared.AfterSuccess.{AfterSuccess}
+use Rattle.port_rules.specs.declared.Found.{Found}
+use Rattle.port_rules.specs.declared.Activation.{Activation}
+use Rattle.port_rules.specs.declared.AfterSearch.{AfterSearch}
+use Rattle.port_rules.specs.declared.AfterActivation.{AfterActivation}
+use Rattle.driver_rules.specs.declared.OpenAnswer.{OpenAnswer}
+use Rattle.driver_rules.specs.declared.OpenAnswer.the-variants as opening
+use Rattle.driver_rules.specs.declared.Opened.{Opened}
+use Rattle.driver_rules.specs.declared.SendAnswer.{SendAnswer}
+use Rattle.driver_rules.specs.declared.SendAnswer.the-variants as sending
+use Rattle.driver_rules.specs.declared.Sent.{Sent}
+use Rattle.driver_rules.specs.declared.Answer.{Answer}
+use Rattle.driver_rules.specs.declared.Answer.the-variants as serving
+use Rattle.driver_rules.specs.declared.Serviced.{Serviced}
 use Rattle.codes.specs.declared.cards.CardDone.{CardDone}
 use Rattle.codes.specs.declared.cards.CardRead.{CardRead}
 use Rattle.codes.specs.declared.cards.CardTold.{CardTold}

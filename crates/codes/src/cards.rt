@@ -1,13 +1,13 @@
 // The card's answers in numbers.
 ghost use mathlib.Core.Path.{_≡_};
 ghost use Rattle.codes.specs.Codes.{doneCode, readCode, readValue, toldCode, toldCount, codedDone, codedRead, codedTold};
-use card::AfterCall;
-use card::AfterRead;
-use card::AfterSuccess;
-use card::Done;
-use card::Read;
-use card::Told;
-use regs::Card;
+use card_rules::AfterCall;
+use card_rules::AfterRead;
+use card_rules::AfterSuccess;
+use card_rules::Card;
+use card_rules::Done;
+use card_rules::Read;
+use card_rules::Told;
 
 // The card after a call, and the code.
 #[repr(C)]

@@ -1,14 +1,14 @@
 // The driver's answers in numbers.
 ghost use mathlib.Core.Path.{_≡_};
 ghost use Rattle.codes.specs.Codes.{openCode, codedOpened, sendCode, sendTicket, codedSent, serviceTold, codedServed};
-use items::Answer;
-use opening::OpenAnswer;
-use opening::Opened;
-use regs::Card;
-use sending::SendAnswer;
-use sending::Sent;
-use serving::Serviced;
-use talk::Driver;
+use card_rules::Card;
+use driver_rules::Answer;
+use driver_rules::Driver;
+use driver_rules::OpenAnswer;
+use driver_rules::Opened;
+use driver_rules::SendAnswer;
+use driver_rules::Sent;
+use driver_rules::Serviced;
 
 // Card and driver after an open, and the code.
 #[repr(C)]

@@ -1,7 +1,7 @@
 // The answer of the image check in numbers.
 ghost use mathlib.Core.Path.{_≡_};
 ghost use Rattle.codes.specs.Codes.{codedCheck};
-use eeprom::Checked;
+use image_rules::Checked;
 
 // The node address, words 00h to 02h, and the code.
 #[repr(C)]

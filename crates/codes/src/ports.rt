@@ -1,11 +1,11 @@
 // The answers of the search and of an activation in numbers.
 ghost use mathlib.Core.Path.{_≡_};
 ghost use Rattle.codes.specs.Codes.{foundCode, foundCount, foundAccesses, codedFound, activatedCode, activatedAccesses, codedActivated};
-use search::Activation;
-use search::AfterActivation;
-use search::AfterSearch;
-use search::Bus;
-use search::Found;
+use port_rules::Activation;
+use port_rules::AfterActivation;
+use port_rules::AfterSearch;
+use port_rules::Bus;
+use port_rules::Found;
 
 // The cards after a search; the addresses found, how many they are, the accesses used, and the code.
 #[repr(C)]

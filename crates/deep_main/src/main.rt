@@ -1,11 +1,11 @@
 // The worst cases of a service's stack: a damaged frame that cannot be discarded, and 768 damaged frames of 8 bytes. It writes the accesses used by each.
+use card_rules::Card;
+use driver_rules::Driver;
 use libc::STDOUT_FILENO;
-use regs::Card;
-use talk::Driver;
 
 // A power-on card, active in window 1.
 fn active() -> Card {
-    let mut c = regs_code::power_on([0; 64], 0);
+    let mut c = regs::power_on([0; 64], 0);
     c.id.active = true;
     c.select.window = 1;
     c
@@ -22,7 +22,7 @@ fn used(c: Card, dir: &mut [u16; 1110]) -> usize {
     let mut ram = [0u8; 8192];
     let mut ahead = [0u8; 256];
     let mut frame = [0u8; 1514];
-    let s = driver_code::service(&mut ram, dir, c, d, 65535, &mut ahead, &mut frame);
+    let s = driver::service(&mut ram, dir, c, d, 65535, &mut ahead, &mut frame);
     s.used
 }
 

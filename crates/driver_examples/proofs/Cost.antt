@@ -4,10 +4,10 @@ use mathlib.Core.Path.{refl}
 use native.Mathlib.Omega.{arith}
 use lib.ListN.{length-append, length-replicate}
 use borrow.Author.Tests.{le-ltb}
-use Rattle.talk.specs.Talk.{run}
-use Rattle.talk.proofs.Runs.{reads-law}
-use Rattle.items.specs.Items.{wordsIn, fetchTalk}
-use Rattle.service.specs.Service.{lookTalk}
+use Rattle.driver_rules.specs.Talk.{run}
+use Rattle.driver_rules.proofs.Runs.{reads-law}
+use Rattle.driver_rules.specs.Items.{wordsIn, fetchTalk}
+use Rattle.driver_rules.specs.Service.{lookTalk}
 use Rattle.driver_examples.specs.Service.{What-a-good-frame-costs}
 
 pub frame-cost : What-a-good-frame-costs

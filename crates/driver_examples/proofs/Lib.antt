@@ -1,5 +1,5 @@
 -- The worked examples, computed.
+pub mod Cost
+pub mod Long
 pub mod Send
 pub mod Service
-pub mod Long
-pub mod Cost

@@ -1,23 +1,23 @@
 -- Send on an opened card, by computing. Assumes nothing.
 use mathlib.Core.Path.{refl}
-use Rattle.receive.specs.Frame.{room}
-use Rattle.receive.specs.Reading.{complete}
-use Rattle.receive.specs.Early.{earlyFlag, toldFlag}
-use Rattle.queue.specs.Queue as queue
-use Rattle.queue.specs.Write.{put, completed}
-use Rattle.outcomes.specs.Outcome.{some, enable, due}
-use Rattle.regs.specs.Room.{txSize, rxSize}
-use Rattle.regs.specs.Status.{statusOf, interrupting}
-use Rattle.regs.specs.Settle.{settle}
-use Rattle.regs.specs.Power.{powerOn}
-use Rattle.commands.specs.Command.{act, command, commanded}
-use Rattle.window_read.specs.Read.{window1, wordAt, afterWord}
-use Rattle.window_write.specs.Write.{coversLow, coversHigh, write, write1, write2, writeWord, writeByte}
-use Rattle.steps.specs.Access.{access, effect}
-use Rattle.talk.specs.Talk.{run, writeWords, wordsOf}
-use Rattle.opening.specs.Open.{openTalk}
-use Rattle.sending.specs.Send.{sendTalk}
-use Rattle.driver.specs.Calls.{sendCall}
+use Rattle.receive_rules.specs.Frame.{room}
+use Rattle.receive_rules.specs.Reading.{complete}
+use Rattle.receive_rules.specs.Early.{earlyFlag, toldFlag}
+use Rattle.transmit_rules.specs.Queue as queue
+use Rattle.transmit_rules.specs.Write.{put, completed}
+use Rattle.transmit_rules.specs.Outcome.{some, enable, due}
+use Rattle.card_rules.specs.Room.{txSize, rxSize}
+use Rattle.card_rules.specs.Status.{statusOf, interrupting}
+use Rattle.card_rules.specs.Settle.{settle}
+use Rattle.card_rules.specs.Power.{powerOn}
+use Rattle.card_rules.specs.Command.{act, command, commanded}
+use Rattle.card_rules.specs.Read.{window1, wordAt, afterWord}
+use Rattle.card_rules.specs.Write.{coversLow, coversHigh, write, write1, write2, writeWord, writeByte}
+use Rattle.card_rules.specs.Access.{access, effect}
+use Rattle.driver_rules.specs.Talk.{run, writeWords, wordsOf}
+use Rattle.driver_rules.specs.Open.{openTalk}
+use Rattle.driver_rules.specs.Send.{sendTalk}
+use Rattle.driver_rules.specs.Calls.{sendCall}
 use Rattle.driver_examples.specs.Ready.{on, opens}
 use Rattle.driver_examples.specs.Send.{Send-examples}
 

@@ -1,32 +1,32 @@
 -- Service on an opened card, by computing. Assumes nothing.
 use mathlib.Core.Path.{refl}
-use Rattle.receive.specs.Frame.{isComing, overran, room}
-use Rattle.receive.specs.Wire as wire
-use Rattle.receive.specs.Wire.{passes, begins, marked, ending}
-use Rattle.receive.specs.Reading as reading
-use Rattle.receive.specs.Reading.{marks, rxStatus, complete, readable, oldest, dataWord, afterRead, withoutOldest}
-use Rattle.receive.specs.Early.{earlyFlag, toldFlag}
+use Rattle.receive_rules.specs.Frame.{isComing, overran, room}
+use Rattle.receive_rules.specs.Wire as wire
+use Rattle.receive_rules.specs.Wire.{passes, begins, marked, ending}
+use Rattle.receive_rules.specs.Reading as reading
+use Rattle.receive_rules.specs.Reading.{marks, rxStatus, complete, readable, oldest, dataWord, afterRead, withoutOldest}
+use Rattle.receive_rules.specs.Early.{earlyFlag, toldFlag}
 use Rattle.store.specs.Store.{atNewest}
-use Rattle.queue.specs.Queue as queue
-use Rattle.queue.specs.Write.{put, completed}
-use Rattle.queue.specs.Leave.{others, oldestWanted}
-use Rattle.outcomes.specs.Outcome.{top, some, push, rest, succeeded, collided, enable, due}
-use Rattle.transmit.specs.Tx as tx
-use Rattle.regs.specs.Room.{txSize, rxSize}
-use Rattle.regs.specs.Status.{statusOf, interrupting}
-use Rattle.regs.specs.Settle.{settle}
-use Rattle.regs.specs.Power.{powerOn}
-use Rattle.commands.specs.Command.{acknowledge, act, command, commanded}
-use Rattle.window_read.specs.Read.{window1, wordAt, afterWord}
-use Rattle.window_write.specs.Write.{coversLow, coversHigh, write, write1, write2, writeWord, writeByte}
-use Rattle.steps.specs.Access.{access, effect, byteAt}
-use Rattle.steps.specs.Event.{wireStart, wireByte, wireEnd, success, collisions}
-use Rattle.talk.specs.Talk.{run, readWords, writeWords, wordsOf}
-use Rattle.opening.specs.Open.{openTalk}
-use Rattle.items.specs.Items.{reports, reportTalk, idleTalk, fetchTalk}
-use Rattle.service.specs.Service.{lookTalk}
-use Rattle.sending.specs.Send.{sendTalk}
-use Rattle.driver.specs.Calls.{serviceCall}
+use Rattle.transmit_rules.specs.Queue as queue
+use Rattle.transmit_rules.specs.Write.{put, completed}
+use Rattle.transmit_rules.specs.Leave.{others, oldestWanted}
+use Rattle.transmit_rules.specs.Outcome.{top, some, push, rest, succeeded, collided, enable, due}
+use Rattle.transmit_rules.specs.Tx as tx
+use Rattle.card_rules.specs.Room.{txSize, rxSize}
+use Rattle.card_rules.specs.Status.{statusOf, interrupting}
+use Rattle.card_rules.specs.Settle.{settle}
+use Rattle.card_rules.specs.Power.{powerOn}
+use Rattle.card_rules.specs.Command.{acknowledge, act, command, commanded}
+use Rattle.card_rules.specs.Read.{window1, wordAt, afterWord}
+use Rattle.card_rules.specs.Write.{coversLow, coversHigh, write, write1, write2, writeWord, writeByte}
+use Rattle.card_rules.specs.Access.{access, effect, byteAt}
+use Rattle.card_rules.specs.Event.{wireStart, wireByte, wireEnd, success, collisions}
+use Rattle.driver_rules.specs.Talk.{run, readWords, writeWords, wordsOf}
+use Rattle.driver_rules.specs.Open.{openTalk}
+use Rattle.driver_rules.specs.Items.{reports, reportTalk, idleTalk, fetchTalk}
+use Rattle.driver_rules.specs.Service.{lookTalk}
+use Rattle.driver_rules.specs.Send.{sendTalk}
+use Rattle.driver_rules.specs.Calls.{serviceCall}
 use Rattle.driver_examples.specs.Ready.{on, opens, bytes, frame}
 use Rattle.driver_examples.specs.Service.{Service-examples}
 

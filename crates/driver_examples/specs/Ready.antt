@@ -2,15 +2,15 @@
 use mathlib.Core.Bool.{Bool, true}
 use Prim.Native.Nat.{ℕ, zero, suc}
 use lib.ListN.{replicate}
-use Rattle.idport.specs.Card.{activated}
-use Rattle.regs.specs.Adapter.{Adapter}
-use Rattle.regs.specs.Update.{withId}
-use Rattle.regs.specs.Power.{powerOn}
-use Rattle.steps.specs.Event.{wireStart, wireByte, wireEnd}
-use Rattle.talk.specs.declared.Driver.{Driver}
-use Rattle.talk.specs.Driver.{neverOpened}
-use Rattle.talk.specs.Talk.{Ran, run}
-use Rattle.opening.specs.Open.{Opening, openTalk}
+use Rattle.port_rules.specs.Card.{activated}
+use Rattle.card_rules.specs.Adapter.{Adapter}
+use Rattle.card_rules.specs.Update.{withId}
+use Rattle.card_rules.specs.Power.{powerOn}
+use Rattle.card_rules.specs.Event.{wireStart, wireByte, wireEnd}
+use Rattle.driver_rules.specs.declared.Driver.{Driver}
+use Rattle.driver_rules.specs.Driver.{neverOpened}
+use Rattle.driver_rules.specs.Talk.{Ran, run}
+use Rattle.driver_rules.specs.Open.{Opening, openTalk}
 
 -- a power-on card with words of zero, activated
 unfoldable pub on : Adapter

@@ -6,16 +6,16 @@ use Prim.Native.Nat.{ℕ}
 use lib.ListN.{length, replicate}
 use Rattle.refusal.specs.declared.Refusal.the-variants.{StateUnsound, LengthOutside, SixteenUnreported, NoRoom, CardUnfit, NeverOpened}
 use Rattle.store.specs.Store as store
-use Rattle.queue.specs.Queue as queue
-use Rattle.regs.specs.Adapter.{Adapter}
-use Rattle.regs.specs.Update.{withTx}
-use Rattle.talk.specs.declared.Driver.{Driver}
-use Rattle.talk.specs.Driver.{neverOpened}
-use Rattle.talk.specs.Talk.{Ran, run}
-use Rattle.sending.specs.declared.SendAnswer.{SendAnswer}
-use Rattle.sending.specs.declared.SendAnswer.the-variants.{Ticket, Refused}
-use Rattle.sending.specs.Send.{Sending, sendTalk}
-use Rattle.driver.specs.Calls.{sendCall}
+use Rattle.transmit_rules.specs.Queue as queue
+use Rattle.card_rules.specs.Adapter.{Adapter}
+use Rattle.card_rules.specs.Update.{withTx}
+use Rattle.driver_rules.specs.declared.Driver.{Driver}
+use Rattle.driver_rules.specs.Driver.{neverOpened}
+use Rattle.driver_rules.specs.Talk.{Ran, run}
+use Rattle.driver_rules.specs.declared.SendAnswer.{SendAnswer}
+use Rattle.driver_rules.specs.declared.SendAnswer.the-variants.{Ticket, Refused}
+use Rattle.driver_rules.specs.Send.{Sending, sendTalk}
+use Rattle.driver_rules.specs.Calls.{sendCall}
 use Rattle.driver_examples.specs.Ready.{on, ready, opened}
 
 -- a run answers x with n accesses

@@ -5,22 +5,22 @@ use mathlib.Core.Bool.{true, false}
 use Prim.Native.Nat.{ℕ, suc, _+_, _%_, _≤_}
 use lib.ListN.{length, replicate}
 use Rattle.refusal.specs.declared.Refusal.the-variants.{StateUnsound, BudgetShort, AreaShort, CardUnfit, NeverOpened}
-use Rattle.receive.specs.Frame.{whole}
-use Rattle.regs.specs.Adapter.{Adapter}
-use Rattle.regs.specs.Update.{withRx}
-use Rattle.steps.specs.Access.{ReadWord, step, access}
-use Rattle.steps.specs.Event.{success, collisions}
-use Rattle.talk.specs.declared.Driver.{Driver}
-use Rattle.talk.specs.Driver.{neverOpened}
-use Rattle.talk.specs.Registers as status
-use Rattle.talk.specs.Talk.{Ran, run}
-use Rattle.items.specs.declared.Answer.{Answer}
-use Rattle.items.specs.declared.Answer.the-variants.{Reported, Status, Idle, Frame, Refused}
-use Rattle.items.specs.Items.{Serving, wordsIn}
-use Rattle.talk.specs.Registers.{bad}
-use Rattle.service.specs.Service.{lookTalk}
-use Rattle.sending.specs.Send.{Sending, sendTalk}
-use Rattle.driver.specs.Calls.{serviceCall}
+use Rattle.receive_rules.specs.Frame.{whole}
+use Rattle.card_rules.specs.Adapter.{Adapter}
+use Rattle.card_rules.specs.Update.{withRx}
+use Rattle.card_rules.specs.Access.{ReadWord, step, access}
+use Rattle.card_rules.specs.Event.{success, collisions}
+use Rattle.driver_rules.specs.declared.Driver.{Driver}
+use Rattle.driver_rules.specs.Driver.{neverOpened}
+use Rattle.driver_rules.specs.Registers as status
+use Rattle.driver_rules.specs.Talk.{Ran, run}
+use Rattle.driver_rules.specs.declared.Answer.{Answer}
+use Rattle.driver_rules.specs.declared.Answer.the-variants.{Reported, Status, Idle, Frame, Refused}
+use Rattle.driver_rules.specs.Items.{Serving, wordsIn}
+use Rattle.driver_rules.specs.Registers.{bad}
+use Rattle.driver_rules.specs.Service.{lookTalk}
+use Rattle.driver_rules.specs.Send.{Sending, sendTalk}
+use Rattle.driver_rules.specs.Calls.{serviceCall}
 use Rattle.driver_examples.specs.Ready.{on, ready, opened, frame}
 
 -- a run answers x with n accesses

@@ -3,13 +3,13 @@ use mathlib.Core.Path.{_≡_, refl, sym, ap, _∙_}
 use mathlib.Core.List.{List}
 use Prim.Native.Nat.{ℕ, zero, suc}
 use lib.ListN.{length, take}
-use Rattle.eeprom.specs.Image.{checkOf}
-use Rattle.image_line.specs.declared.Text.{Text}
-use Rattle.image_line.specs.Line.{lineOf, Says}
-use Rattle.queue.specs.Leave.{toldOf}
-use Rattle.regs.specs.declared.Card.{Card}
-use Rattle.regs.specs.View.{view}
-use Rattle.card.specs.Calls.{value, done, Area}
+use Rattle.image_rules.specs.Image.{checkOf}
+use Rattle.image_rules.specs.declared.Text.{Text}
+use Rattle.image_rules.specs.Line.{lineOf, Says}
+use Rattle.transmit_rules.specs.Leave.{toldOf}
+use Rattle.card_rules.specs.declared.Card.{Card}
+use Rattle.card_rules.specs.View.{view}
+use Rattle.card_rules.specs.Calls.{value, done, Area}
 use Rattle.fits.specs.Fits.{Is, CardCalls, SameText, Nothing-else-fits}
 use Rattle.fits.proofs.Card.{one-answer}
 use Rattle.fits.proofs.Driver.{driver-calls}

@@ -4,10 +4,10 @@ use mathlib.Core.Bool.{Bool, true, false}
 use mathlib.Core.List.{List}
 use Prim.Native.Nat.{ℕ, zero, suc}
 use native.Mathlib.Omega.{arith}
-use Rattle.laws.proofs.Tests.{never}
-use Rattle.regs.specs.declared.Card.{Card}
-use Rattle.regs.specs.Adapter.{Adapter}
-use Rattle.card.specs.Calls.{Reply, refused, value, done, replying, Does, Call}
+use Rattle.bits.proofs.Tests.{never}
+use Rattle.card_rules.specs.declared.Card.{Card}
+use Rattle.card_rules.specs.Adapter.{Adapter}
+use Rattle.card_rules.specs.Calls.{Reply, refused, value, done, replying, Does, Call}
 use Rattle.fits.specs.Agree.{End, shown, SameEnd, isRefusal}
 use Rattle.fits.specs.Fits.{OneAnswer}
 

@@ -4,27 +4,27 @@ use mathlib.Core.Bool.{Bool, true, false, cond, not, _&&_}
 use mathlib.Core.List.{List}
 use Prim.Native.Nat.{ℕ}
 use Rattle.refusal.specs.declared.Refusal.the-variants.{CardUnfit}
-use Rattle.laws.proofs.Tests.{by-test, both, never}
-use Rattle.regs.specs.declared.Card.{Card}
-use Rattle.regs.specs.Adapter.{Adapter}
-use Rattle.regs.specs.View.{view, Stands}
-use Rattle.talk.specs.declared.Driver.{Driver}
-use Rattle.talk.specs.Talk.{Talk, Ran, run}
-use Rattle.items.specs.declared.Answer.{Answer}
-use Rattle.items.specs.declared.Answer.the-variants as serving
-use Rattle.items.specs.Items.{Serving}
-use Rattle.serving.specs.declared.Serviced.{Serviced}
-use Rattle.service.specs.Service.{lookTalk}
-use Rattle.opening.specs.declared.OpenAnswer.{OpenAnswer}
-use Rattle.opening.specs.declared.OpenAnswer.the-variants as opening
-use Rattle.opening.specs.Open as opens
-use Rattle.opening.specs.declared.Opened.{Opened}
-use Rattle.sending.specs.declared.SendAnswer.{SendAnswer}
-use Rattle.sending.specs.declared.SendAnswer.the-variants as sending
-use Rattle.sending.specs.Send as sends
-use Rattle.sending.specs.declared.Sent.{Sent}
-use Rattle.driver.specs.Paper.{openPaper, sendPaper, servicePaper}
-use Rattle.driver.specs.Calls.{soundState, large, serviceCall, Opens, Sends, Services}
+use Rattle.bits.proofs.Tests.{by-test, both, never}
+use Rattle.card_rules.specs.declared.Card.{Card}
+use Rattle.card_rules.specs.Adapter.{Adapter}
+use Rattle.card_rules.specs.View.{view, Stands}
+use Rattle.driver_rules.specs.declared.Driver.{Driver}
+use Rattle.driver_rules.specs.Talk.{Talk, Ran, run}
+use Rattle.driver_rules.specs.declared.Answer.{Answer}
+use Rattle.driver_rules.specs.declared.Answer.the-variants as serving
+use Rattle.driver_rules.specs.Items.{Serving}
+use Rattle.driver_rules.specs.declared.Serviced.{Serviced}
+use Rattle.driver_rules.specs.Service.{lookTalk}
+use Rattle.driver_rules.specs.declared.OpenAnswer.{OpenAnswer}
+use Rattle.driver_rules.specs.declared.OpenAnswer.the-variants as opening
+use Rattle.driver_rules.specs.Open as opens
+use Rattle.driver_rules.specs.declared.Opened.{Opened}
+use Rattle.driver_rules.specs.declared.SendAnswer.{SendAnswer}
+use Rattle.driver_rules.specs.declared.SendAnswer.the-variants as sending
+use Rattle.driver_rules.specs.Send as sends
+use Rattle.driver_rules.specs.declared.Sent.{Sent}
+use Rattle.driver_rules.specs.Paper.{openPaper, sendPaper, servicePaper}
+use Rattle.driver_rules.specs.Calls.{soundState, large, serviceCall, Opens, Sends, Services}
 use Rattle.fits.specs.Agree.{With, WithAreas, End, shown, SameEnd, isRefused, SameLeft}
 use Rattle.fits.specs.Fits.{opened, sent, served, DriverCalls}
 use Rattle.fits.proofs.Service.{Ways, of-look}

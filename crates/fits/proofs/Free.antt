@@ -3,14 +3,14 @@ use mathlib.Core.Path.{_≡_, refl, sym, ap, _∙_}
 use mathlib.Core.Bool.{Bool, true, false}
 use mathlib.Core.List.{List}
 use Prim.Native.Nat.{ℕ, suc}
-use Rattle.regs.specs.Adapter.{Adapter}
-use Rattle.regs.specs.Power.{powerOn}
-use Rattle.regs.specs.View.{view, soundCard}
-use Rattle.regs.proofs.Checked.{card-shown}
-use Rattle.steps.specs.Access.{Step, WriteWord}
-use Rattle.steps.proofs.Ends.{asleep}
-use Rattle.card.specs.Calls.{done, isWord}
-use Rattle.card.proofs.Judged.{goes}
+use Rattle.card_rules.specs.Adapter.{Adapter}
+use Rattle.card_rules.specs.Power.{powerOn}
+use Rattle.card_rules.specs.View.{view, soundCard}
+use Rattle.card_rules.proofs.Checked.{card-shown}
+use Rattle.card_rules.specs.Access.{Step, WriteWord}
+use Rattle.card_rules.proofs.StepEnds.{asleep}
+use Rattle.card_rules.specs.Calls.{done, isWord}
+use Rattle.card_rules.proofs.Judged.{goes}
 use Rattle.fits.specs.Free.{The-memory-is-left-free}
 
 pub left-free : The-memory-is-left-free

@@ -1,6 +1,6 @@
 -- Why nothing else fits.
-pub mod Card
-pub mod Service
-pub mod Driver
 pub mod All
+pub mod Card
+pub mod Driver
 pub mod Free
+pub mod Service

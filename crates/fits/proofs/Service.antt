@@ -7,16 +7,16 @@ use native.Mathlib.Omega.{arith}
 use lib.Dec.{ltb, eqb}
 use lib.ListN.{length, take, length-take}
 use Rattle.refusal.specs.declared.Refusal.the-variants.{CardUnfit}
-use Rattle.laws.proofs.Tests.{of-cond}
-use Rattle.regs.specs.Adapter.{Adapter}
-use Rattle.steps.specs.Access.{Access, access}
-use Rattle.talk.specs.declared.Driver.{Driver}
-use Rattle.talk.specs.Registers.{unfit, txComplete, rxComplete, bad}
-use Rattle.talk.specs.Talk.{Talk, done, ask, run, readWords}
-use Rattle.talk.specs.Driver.{withError}
-use Rattle.items.specs.declared.Answer.the-variants.{Reported, Status, Frame, Idle, Refused}
-use Rattle.items.specs.Items.{Serving, plain, short, isError, seen, reports, reportTalk, idleTalk, fetchTalk, wordsIn}
-use Rattle.service.specs.Service.{lookTalk, receiveTalk, dropTalk}
+use Rattle.bits.proofs.Tests.{of-cond}
+use Rattle.card_rules.specs.Adapter.{Adapter}
+use Rattle.card_rules.specs.Access.{Access, access}
+use Rattle.driver_rules.specs.declared.Driver.{Driver}
+use Rattle.driver_rules.specs.Registers.{unfit, txComplete, rxComplete, bad}
+use Rattle.driver_rules.specs.Talk.{Talk, done, ask, run, readWords}
+use Rattle.driver_rules.specs.Driver.{withError}
+use Rattle.driver_rules.specs.declared.Answer.the-variants.{Reported, Status, Frame, Idle, Refused}
+use Rattle.driver_rules.specs.Items.{Serving, plain, short, isError, seen, reports, reportTalk, idleTalk, fetchTalk, wordsIn}
+use Rattle.driver_rules.specs.Service.{lookTalk, receiveTalk, dropTalk}
 
 -- the ways that a service which is begun can end
 pub record Ways (P : Serving → Type 0) : Type 0 where

@@ -3,14 +3,14 @@ use mathlib.Core.Path.{_≡_}
 use mathlib.Core.Bool.{Bool, true, false}
 use mathlib.Core.List.{List}
 use Prim.Native.Nat.{ℕ, suc}
-use Rattle.regs.specs.declared.Card.{Card}
-use Rattle.regs.specs.Adapter.{Adapter}
-use Rattle.regs.specs.View.{view}
-use Rattle.card.specs.Calls as card
-use Rattle.card.specs.Calls.{Reply}
-use Rattle.talk.specs.declared.Driver.{Driver}
-use Rattle.driver.specs.Paper as driver
-use Rattle.driver.specs.Paper.{Paper}
+use Rattle.card_rules.specs.declared.Card.{Card}
+use Rattle.card_rules.specs.Adapter.{Adapter}
+use Rattle.card_rules.specs.View.{view}
+use Rattle.card_rules.specs.Calls as card
+use Rattle.card_rules.specs.Calls.{Reply}
+use Rattle.driver_rules.specs.declared.Driver.{Driver}
+use Rattle.driver_rules.specs.Paper as driver
+use Rattle.driver_rules.specs.Paper.{Paper}
 
 -- a result, and both areas of the card's memory after the call
 pub record With (A : Type 0) : Type 0 where

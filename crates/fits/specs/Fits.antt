@@ -7,32 +7,32 @@ use lib.ListN.{length, take}
 use denote.Ref.{RefT, ptr, now}
 use Rattle.refusal.specs.declared.Refusal.{Refusal}
 use Rattle.refusal.specs.Number.{numberOf}
-use Rattle.eeprom.specs.declared.WordOffset.{WordOffset}
-use Rattle.eeprom.specs.declared.BytePlace.{BytePlace}
-use Rattle.eeprom.specs.declared.Checked.{Checked}
-use Rattle.eeprom.specs.Image as image
-use Rattle.image_line.specs.declared.Text.{Text}
-use Rattle.image_line.specs.Line.{lineOf, Says}
-use Rattle.idport.specs.declared.IdState.{IdState}
-use Rattle.idport.specs.Card.{idFresh, idWrite, idBit, idAfterRead}
-use Rattle.idport.specs.Sound.{idSound}
-use Rattle.search.specs.declared.Bus.{Bus}
-use Rattle.search.specs.Calls as port
-use Rattle.transmit.specs.Tx.{ready}
-use Rattle.regs.specs.declared.Card.{Card}
-use Rattle.regs.specs.View.{view, soundCard}
-use Rattle.card.specs.declared.AfterRead.{AfterRead}
-use Rattle.card.specs.declared.AfterCall.{AfterCall}
-use Rattle.card.specs.declared.AfterSuccess.{AfterSuccess}
-use Rattle.card.specs.Calls.{Reply, refused, readReply, doneReply, toldReply, judged, isWord, isByte, onWire, offWire}
-use Rattle.card.specs.Contracts as contract
-use Rattle.talk.specs.declared.Driver.{Driver}
-use Rattle.opening.specs.declared.Opened.{Opened}
-use Rattle.sending.specs.declared.Sent.{Sent}
-use Rattle.serving.specs.declared.Serviced.{Serviced}
-use Rattle.driver.specs.Paper.{openPaper, sendPaper, servicePaper}
-use Rattle.driver.specs.Calls.{Opens, Sends, Services}
-use Rattle.driver.specs.HandUp.{area, handed}
+use Rattle.image_rules.specs.declared.WordOffset.{WordOffset}
+use Rattle.image_rules.specs.declared.BytePlace.{BytePlace}
+use Rattle.image_rules.specs.declared.Checked.{Checked}
+use Rattle.image_rules.specs.Image as image
+use Rattle.image_rules.specs.declared.Text.{Text}
+use Rattle.image_rules.specs.Line.{lineOf, Says}
+use Rattle.port_rules.specs.declared.IdState.{IdState}
+use Rattle.port_rules.specs.Card.{idFresh, idWrite, idBit, idAfterRead}
+use Rattle.port_rules.specs.Sound.{idSound}
+use Rattle.port_rules.specs.declared.Bus.{Bus}
+use Rattle.port_rules.specs.Calls as port
+use Rattle.transmit_rules.specs.Tx.{ready}
+use Rattle.card_rules.specs.declared.Card.{Card}
+use Rattle.card_rules.specs.View.{view, soundCard}
+use Rattle.card_rules.specs.declared.AfterRead.{AfterRead}
+use Rattle.card_rules.specs.declared.AfterCall.{AfterCall}
+use Rattle.card_rules.specs.declared.AfterSuccess.{AfterSuccess}
+use Rattle.card_rules.specs.Calls.{Reply, refused, readReply, doneReply, toldReply, judged, isWord, isByte, onWire, offWire}
+use Rattle.card_rules.specs.Contracts as contract
+use Rattle.driver_rules.specs.declared.Driver.{Driver}
+use Rattle.driver_rules.specs.declared.Opened.{Opened}
+use Rattle.driver_rules.specs.declared.Sent.{Sent}
+use Rattle.driver_rules.specs.declared.Serviced.{Serviced}
+use Rattle.driver_rules.specs.Paper.{openPaper, sendPaper, servicePaper}
+use Rattle.driver_rules.specs.Calls.{Opens, Sends, Services}
+use Rattle.driver_rules.specs.HandUp.{area, handed}
 use Rattle.fits.specs.Agree.{With, WithAreas, End, SameEnd, isRefusal, Left, SameLeft}
 
 -- Two results that meet a contract agree.

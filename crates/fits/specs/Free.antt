@@ -4,10 +4,10 @@ use mathlib.Core.Bool.{true}
 use mathlib.Core.List.{List}
 use Prim.Native.Nat.{ℕ}
 use lib.ListN.{length}
-use Rattle.regs.specs.declared.Card.{Card}
-use Rattle.card.specs.declared.Done.the-variants as finished
-use Rattle.card.specs.Calls.{isWord}
-use Rattle.card.specs.Contracts as contract
+use Rattle.card_rules.specs.declared.Card.{Card}
+use Rattle.card_rules.specs.declared.Done.the-variants as finished
+use Rattle.card_rules.specs.Calls.{isWord}
+use Rattle.card_rules.specs.Contracts as contract
 
 -- A card at power-on stores no frame. After a word is written to it, any memory of the right size meets the contract.
 abbrev pub The-memory-is-left-free : Type 0

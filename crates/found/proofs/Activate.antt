@@ -7,11 +7,11 @@ use mathlib.Core.List.{List, [], _∷_, map}
 use native.Mathlib.Omega.{arith}
 use lib.Dec.{eqb}
 use borrow.Author.Tests.{lt-ltb, le-ltb, eq-eqb, ne-eqb, eqb-true, eqb-false}
-use Rattle.idport.specs.declared.IdState.{IdState}
-use Rattle.idport.specs.Card.{based, idWrite, idCommand}
-use Rattle.search.specs.Port.{done, run}
-use Rattle.search.specs.Search.{put, search, activate}
-use Rattle.search.specs.Leads.{on}
+use Rattle.port_rules.specs.declared.IdState.{IdState}
+use Rattle.port_rules.specs.Card.{based, idWrite, idCommand}
+use Rattle.port_rules.specs.Port.{done, run}
+use Rattle.port_rules.specs.Search.{put, search, activate}
+use Rattle.port_rules.specs.Leads.{on}
 use Rattle.found.specs.Theorems.{Here, place, station, Kept, keeping, configured, activatedBy, Activation-activates-the-tagged-card, A-found-card-is-activated-alone}
 use Rattle.found.proofs.Found.{finds-every-card}
 use Rattle.found.proofs.Run.{writes, map-map}

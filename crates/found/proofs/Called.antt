@@ -8,14 +8,14 @@ use native.Mathlib.Omega.{arith}
 use native.Mathlib.Numerals.{add-one}
 use lib.ListN.{length}
 use borrow.Author.Tests.{lt-ltb, eq-eqb, ne-eqb}
-use Rattle.idport.specs.declared.IdState.{IdState}
-use Rattle.idport.specs.Sequence.{idByte}
-use Rattle.idport.proofs.Chain.{the-sequence}
-use Rattle.idport.specs.Card.{expected, idWrite, idWait, idCommand, moved}
-use Rattle.search.specs.Port.{Talk}
-use Rattle.search.specs.Search.{puts, idBytes, callUp}
+use Rattle.port_rules.specs.declared.IdState.{IdState}
+use Rattle.port_rules.specs.Sequence.{idByte}
+use Rattle.port_rules.proofs.Chain.{the-sequence}
+use Rattle.port_rules.specs.Card.{expected, idWrite, idWait, idCommand, moved}
+use Rattle.port_rules.specs.Port.{Talk}
+use Rattle.port_rules.specs.Search.{puts, idBytes, callUp}
 use Rattle.found.specs.Theorems.{All}
-use Rattle.search.specs.Leads.{Leads}
+use Rattle.port_rules.specs.Leads.{Leads}
 use Rattle.found.proofs.Run.{writes-all, wrote, map-eq}
 
 pub nonzero : (i : ℕ) → i < 255 → idByte i ≡ 0 → ⊥

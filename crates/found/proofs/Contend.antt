@@ -8,12 +8,12 @@ use mathlib.Core.Logic.{_⊎_, inl, inr}
 use native.Mathlib.Omega.{arith}
 use lib.Dec.{eqb}
 use borrow.Author.Tests.{eq-eqb, ne-eqb, eqb-true, eqb-false}
-use Rattle.idport.specs.declared.IdState.{IdState}
-use Rattle.idport.specs.Card.{idDrives, idBit, idAfterRead, loaded}
-use Rattle.search.specs.Port.{Talk, read, after, value, portBit, portRead}
-use Rattle.search.specs.Search.{bits}
+use Rattle.port_rules.specs.declared.IdState.{IdState}
+use Rattle.port_rules.specs.Card.{idDrives, idBit, idAfterRead, loaded}
+use Rattle.port_rules.specs.Port.{Talk, read, after, value, portBit, portRead}
+use Rattle.port_rules.specs.Search.{bits}
 use Rattle.found.specs.Theorems.{All}
-use Rattle.search.specs.Leads.{Leads, on, stay, step}
+use Rattle.port_rules.specs.Leads.{Leads, on, stay, step}
 use Rattle.found.proofs.Run.{map-map, map-eq, map-same, all-map}
 use Rattle.found.proofs.Called.{out}
 

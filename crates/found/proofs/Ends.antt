@@ -6,9 +6,9 @@ use mathlib.Core.List.{List, [], _∷_}
 use native.Mathlib.Omega.{arith}
 use lib.Dec.{eqb}
 use lib.ListN.{length}
-use Rattle.idport.specs.declared.IdState.{IdState}
-use Rattle.search.specs.Port.{Access, Talk, done, ask, write, read, run, value, after}
-use Rattle.search.specs.Search.{put, puts, idBytes, bits, callUp, readAddress, rounds, search, allOnes}
+use Rattle.port_rules.specs.declared.IdState.{IdState}
+use Rattle.port_rules.specs.Port.{Access, Talk, done, ask, write, read, run, value, after}
+use Rattle.port_rules.specs.Search.{put, puts, idBytes, bits, callUp, readAddress, rounds, search, allOnes}
 use Rattle.found.specs.Theorems.{The-search-ends}
 use Rattle.found.proofs.Called.{idBytes-length}
 

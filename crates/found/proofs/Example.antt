@@ -8,7 +8,7 @@ use mathlib.Core.List.{List, [], _∷_, map}
 use lib.Dec.{eqb}
 use lib.ListN.{length}
 use borrow.Author.Tests.{eqb-false}
-use Rattle.idport.specs.Card.{idFresh}
+use Rattle.port_rules.specs.Card.{idFresh}
 use Rattle.found.specs.Theorems.{All, Distinct, station, Findable, FindsAll, ascending, insert, place, freshCards, searchOf, Fresh-cards-are-found}
 use Rattle.found.proofs.Run.{all-map}
 use Rattle.found.proofs.Found.{finds-every-card}

@@ -9,12 +9,12 @@ use native.Mathlib.Nat.{zero-add}
 use lib.Dec.{ltb}
 use lib.ListN.{length, length-map}
 use borrow.Author.Tests.{eq-eqb}
-use Rattle.idport.specs.declared.IdState.{IdState}
-use Rattle.idport.specs.Card.{idWrite, idCommand}
-use Rattle.search.specs.Port.{Talk, done, run}
-use Rattle.search.specs.Search.{put, callUp, rounds, search}
+use Rattle.port_rules.specs.declared.IdState.{IdState}
+use Rattle.port_rules.specs.Card.{idWrite, idCommand}
+use Rattle.port_rules.specs.Port.{Talk, done, run}
+use Rattle.port_rules.specs.Search.{put, callUp, rounds, search}
 use Rattle.found.specs.Theorems.{All, station, keeping, Here, Findable, FindsAll, ascending, place, The-search-finds-every-card, The-search-costs}
-use Rattle.search.specs.Leads.{Leads, on}
+use Rattle.port_rules.specs.Leads.{Leads, on}
 use Rattle.found.proofs.Run.{writes, map-map, map-eq, all-map}
 use Rattle.found.proofs.Called.{obeying, calls}
 use Rattle.found.proofs.Rounds.{untagged, Finds, finds, newTag, costs}

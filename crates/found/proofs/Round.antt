@@ -8,12 +8,12 @@ use mathlib.Core.Logic.{inl, inr}
 use native.Mathlib.Omega.{arith}
 use lib.Dec.{eqb}
 use borrow.Author.Tests.{lt-ltb, le-ltb, eq-eqb, ne-eqb, eqb-true, eqb-false}
-use Rattle.idport.specs.declared.IdState.{IdState}
-use Rattle.idport.specs.Card.{idWrite, idWait, idCommand, idDrives}
-use Rattle.search.specs.Port.{Talk}
-use Rattle.search.specs.Search.{put, bits, callUp, readAddress, allOnes}
+use Rattle.port_rules.specs.declared.IdState.{IdState}
+use Rattle.port_rules.specs.Card.{idWrite, idWait, idCommand, idDrives}
+use Rattle.port_rules.specs.Port.{Talk}
+use Rattle.port_rules.specs.Search.{put, bits, callUp, readAddress, allOnes}
 use Rattle.found.specs.Theorems.{All, wordAt, station, keeping, Findable}
-use Rattle.search.specs.Leads.{Leads, on}
+use Rattle.port_rules.specs.Leads.{Leads, on}
 use Rattle.found.proofs.Run.{writes, map-map, all-map}
 use Rattle.found.proofs.Called.{obeying, out, calls}
 use Rattle.found.proofs.Contend.{Some, some-map, Drives, Above, Mute, heard, reads, reads-ones, ones, sixteen, heard-mute, heard-same, heard-other, out-mute}

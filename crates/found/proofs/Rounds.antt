@@ -9,12 +9,12 @@ use native.Mathlib.Omega.{arith}
 use lib.Dec.{eqb, leb, ltb, leb·suc-suc}
 use lib.ListN.{length, getD}
 use borrow.Author.Tests.{lt-ltb, eq-eqb, ne-eqb, eqb-true, eqb-false, leb-true, leb-false}
-use Rattle.idport.specs.declared.IdState.{IdState}
-use Rattle.idport.specs.Card.{idWrite}
-use Rattle.search.specs.Port.{Talk}
-use Rattle.search.specs.Search.{put, rounds, allOnes}
+use Rattle.port_rules.specs.declared.IdState.{IdState}
+use Rattle.port_rules.specs.Card.{idWrite}
+use Rattle.port_rules.specs.Port.{Talk}
+use Rattle.port_rules.specs.Search.{put, rounds, allOnes}
 use Rattle.found.specs.Theorems.{All, Distinct, station, Kept, keeping, Here, Findable, ascending, place}
-use Rattle.search.specs.Leads.{Leads, on, stay}
+use Rattle.port_rules.specs.Leads.{Leads, on, stay}
 use Rattle.found.proofs.Run.{writes, map-map, map-eq, all-map, all-both, all-all}
 use Rattle.found.proofs.Contend.{Some}
 use Rattle.found.proofs.Sort.{others, others-is, others-not, distinct-others, least-first, length-ascending}

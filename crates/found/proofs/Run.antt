@@ -5,11 +5,11 @@ use mathlib.Core.Path.{_≡_, refl, sym, _∙_, ap, subst}
 use mathlib.Core.List.{List, [], _∷_, map}
 use native.Mathlib.Omega.{arith}
 use lib.ListN.{length}
-use Rattle.idport.specs.declared.IdState.{IdState}
-use Rattle.idport.specs.Card.{idWrite}
-use Rattle.search.specs.Port.{Talk, write, run, after, portWrite}
-use Rattle.search.specs.Search.{put, puts}
-use Rattle.search.specs.Leads.{Leads, stay, step, on}
+use Rattle.port_rules.specs.declared.IdState.{IdState}
+use Rattle.port_rules.specs.Card.{idWrite}
+use Rattle.port_rules.specs.Port.{Talk, write, run, after, portWrite}
+use Rattle.port_rules.specs.Search.{put, puts}
+use Rattle.port_rules.specs.Leads.{Leads, stay, step, on}
 use Rattle.found.specs.Theorems.{All}
 
 -- lists

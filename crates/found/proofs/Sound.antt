@@ -4,12 +4,12 @@ use Prim.Native.Nat.{ℕ, _<_}
 use mathlib.Core.Path.{_≡_, refl}
 use mathlib.Core.Bool.{Bool, true, false, _&&_, false≢true}
 use mathlib.Core.List.{List, [], _∷_, map}
-use Rattle.idport.specs.declared.IdState.{IdState}
-use Rattle.idport.specs.Card.{idWrite, idAfterRead}
-use Rattle.idport.specs.Sound.{idSound}
-use Rattle.idport.proofs.Keep.{every-step-keeps-soundness}
-use Rattle.search.specs.Port.{Access, write, read, value, after, Talk, done, ask, run, portWrite, portBit, portRead}
-use Rattle.search.specs.Calls.{allSound}
+use Rattle.port_rules.specs.declared.IdState.{IdState}
+use Rattle.port_rules.specs.Card.{idWrite, idAfterRead}
+use Rattle.port_rules.specs.Sound.{idSound}
+use Rattle.port_rules.proofs.Keep.{every-step-keeps-soundness}
+use Rattle.port_rules.specs.Port.{Access, write, read, value, after, Talk, done, ask, run, portWrite, portBit, portRead}
+use Rattle.port_rules.specs.Calls.{allSound}
 use Rattle.found.specs.Theorems.{Every-access-keeps-soundness}
 
 each : (f : IdState → IdState) → ((s : IdState) → idSound s ≡ true → idSound (f s) ≡ true) → (cs : List IdState) → allSound cs ≡ true → allSound (map f cs) ≡ true

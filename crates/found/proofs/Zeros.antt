@@ -6,10 +6,10 @@ use mathlib.Core.Bool.{true}
 use mathlib.Core.List.{List, [], _∷_, map}
 use native.Mathlib.Omega.{arith}
 use lib.ListN.{length}
-use Rattle.idport.specs.declared.IdState.{IdState}
-use Rattle.idport.specs.Card.{waiting}
-use Rattle.search.specs.Port.{portWrite, value, after, Talk, done, run}
-use Rattle.search.specs.Search.{puts, idBytes, callUp}
+use Rattle.port_rules.specs.declared.IdState.{IdState}
+use Rattle.port_rules.specs.Card.{waiting}
+use Rattle.port_rules.specs.Port.{portWrite, value, after, Talk, done, run}
+use Rattle.port_rules.specs.Search.{puts, idBytes, callUp}
 use Rattle.found.specs.Theorems.{Here, oneZero, twoZeros, obedient, One-zero-misses-a-card}
 use Rattle.found.proofs.Run.{wrote, writes-all}
 use Rattle.found.proofs.Called.{nonzero, roused, calls}

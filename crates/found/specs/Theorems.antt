@@ -6,11 +6,11 @@ use mathlib.Core.Bool.{Bool, true, false, cond}
 use mathlib.Core.List.{List, [], _∷_, map}
 use lib.Dec.{eqb, ltb}
 use lib.ListN.{length, getD}
-use Rattle.idport.specs.declared.IdState.{IdState}
-use Rattle.idport.specs.Card.{based, moved, waiting, idFresh}
-use Rattle.search.specs.Port.{Access, after, Talk, done, Ran, run}
-use Rattle.search.specs.Search.{put, puts, idBytes, callUp, search, activate, allOnes}
-use Rattle.search.specs.Calls.{allSound}
+use Rattle.port_rules.specs.declared.IdState.{IdState}
+use Rattle.port_rules.specs.Card.{based, moved, waiting, idFresh}
+use Rattle.port_rules.specs.Port.{Access, after, Talk, done, Ran, run}
+use Rattle.port_rules.specs.Search.{put, puts, idBytes, callUp, search, activate, allOnes}
+use Rattle.port_rules.specs.Calls.{allSound}
 
 -- a word of the EEPROM, and the station address: words 00h, 01h, 02h as one number
 abbrev pub wordAt : ℕ → IdState → ℕ

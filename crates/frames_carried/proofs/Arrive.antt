@@ -8,17 +8,17 @@ use native.Mathlib.Omega.{arith}
 use borrow.Author.Tests.{le-ltb}
 use lib.ListN.{length, length-append}
 use lib.Dec.{eqb, ltb}
-use Rattle.laws.proofs.Tests.{both, never}
+use Rattle.bits.proofs.Tests.{both, never}
 use Rattle.store.specs.Store.{round4}
-use Rattle.receive.specs.Frame.{Frame, isComing, overran, room}
-use Rattle.receive.specs.Wire.{fresh, ending, endOf}
-use Rattle.transmit.specs.Tx as tx
-use Rattle.transmit.specs.Tx.{ready}
-use Rattle.regs.specs.Adapter.{Adapter}
-use Rattle.regs.specs.Room.{rxSize, rxRoom}
-use Rattle.steps.specs.Event as card
-use Rattle.card.specs.Calls.{offWire}
-use Rattle.driver.specs.Calls.{openCall, sendCall}
+use Rattle.receive_rules.specs.Frame.{Frame, isComing, overran, room}
+use Rattle.receive_rules.specs.Wire.{fresh, ending, endOf}
+use Rattle.transmit_rules.specs.Tx as tx
+use Rattle.transmit_rules.specs.Tx.{ready}
+use Rattle.card_rules.specs.Adapter.{Adapter}
+use Rattle.card_rules.specs.Room.{rxSize, rxRoom}
+use Rattle.card_rules.specs.Event as card
+use Rattle.card_rules.specs.Calls.{offWire}
+use Rattle.driver_rules.specs.Calls.{openCall, sendCall}
 use Rattle.runs.specs.Run.{Bench, soundBench, Areas, Event, Start, Byte, End, Sent, Collided, Open, Send, Service, opens, sends, wire, next}
 use Rattle.runs.proofs.Kept.{next-sound}
 use Rattle.frames_carried.specs.Bytes.{octets, octetsOf, wireOctets, between, bytesIn}

@@ -9,32 +9,32 @@ use lib.ListN.{length}
 use lib.Dec.{eqb, ltb}
 use Rattle.refusal.specs.declared.Refusal.the-variants.{NeverOpened, AreaShort}
 use Rattle.refusal.specs.Number.{numberOf}
-use Rattle.laws.proofs.Tests.{both, never, of-cond}
+use Rattle.bits.proofs.Tests.{both, never, of-cond}
 use Rattle.store.specs.Store.{atNewest}
-use Rattle.receive.specs.Frame.{Frame}
-use Rattle.receive.specs.Update.{withFrames, withWire}
-use Rattle.receive.specs.Wire as wires
-use Rattle.receive.specs.Wire.{begins, takes, fits, ends}
-use Rattle.receive.specs.Sound.{inOrder}
-use Rattle.receive.proofs.Facts.{sound-told}
-use Rattle.transmit.specs.Tx as tx
-use Rattle.transmit.specs.Tx.{ready}
-use Rattle.regs.specs.Adapter.{Adapter}
-use Rattle.regs.specs.Update.{withRx, withTx}
-use Rattle.regs.specs.Room.{rxRoom}
-use Rattle.regs.specs.Settle.{settle}
-use Rattle.regs.specs.Sound.{sound}
-use Rattle.regs.proofs.Sides.{rx-of}
-use Rattle.steps.specs.Event as card
-use Rattle.card.specs.Calls.{onWire, offWire}
-use Rattle.talk.specs.Talk.{Talk, done, run}
-use Rattle.items.specs.declared.Answer.{Answer}
-use Rattle.items.specs.declared.Answer.the-variants as answer
-use Rattle.items.specs.Areas.{inLook, inFrame}
-use Rattle.items.specs.Items.{Serving, plain}
-use Rattle.driver.specs.Paper.{Paper, servicePaper}
-use Rattle.driver.proofs.HandUp.{handed-as}
-use Rattle.driver.specs.Calls.{openCall, sendCall, serviceCall}
+use Rattle.receive_rules.specs.Frame.{Frame}
+use Rattle.receive_rules.specs.Update.{withFrames, withWire}
+use Rattle.receive_rules.specs.Wire as wires
+use Rattle.receive_rules.specs.Wire.{begins, takes, fits, ends}
+use Rattle.receive_rules.specs.Sound.{inOrder}
+use Rattle.receive_rules.proofs.Facts.{sound-told}
+use Rattle.transmit_rules.specs.Tx as tx
+use Rattle.transmit_rules.specs.Tx.{ready}
+use Rattle.card_rules.specs.Adapter.{Adapter}
+use Rattle.card_rules.specs.Update.{withRx, withTx}
+use Rattle.card_rules.specs.Room.{rxRoom}
+use Rattle.card_rules.specs.Settle.{settle}
+use Rattle.card_rules.specs.Sound.{sound}
+use Rattle.card_rules.proofs.Sides.{rx-of}
+use Rattle.card_rules.specs.Event as card
+use Rattle.card_rules.specs.Calls.{onWire, offWire}
+use Rattle.driver_rules.specs.Talk.{Talk, done, run}
+use Rattle.driver_rules.specs.declared.Answer.{Answer}
+use Rattle.driver_rules.specs.declared.Answer.the-variants as answer
+use Rattle.driver_rules.specs.Areas.{inLook, inFrame}
+use Rattle.driver_rules.specs.Items.{Serving, plain}
+use Rattle.driver_rules.specs.Paper.{Paper, servicePaper}
+use Rattle.driver_rules.proofs.HandUp.{handed-as}
+use Rattle.driver_rules.specs.Calls.{openCall, sendCall, serviceCall}
 use Rattle.runs.specs.Run.{Bench, soundBench, Areas, full, Event, Start, Byte, End, Sent, Collided, Open, Send, Service, Said, refused, told, answered, served, opens, sends, serves, refusing, wire, next, said, after, sayings}
 use Rattle.runs.proofs.Kept.{adapter-of, next-sound}
 use Rattle.frames_carried.specs.Bytes.{octets, holdable, octetsOf, wireOctets}

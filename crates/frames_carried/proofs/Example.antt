@@ -4,39 +4,39 @@ use mathlib.Core.Bool.{true, false}
 use mathlib.Core.List.{List, [], _∷_, _++_, map}
 use Prim.Native.Nat.{ℕ}
 use lib.ListN.{replicate}
-use Rattle.idport.specs.Card.{activated}
-use Rattle.idport.specs.Sound.{idSound}
-use Rattle.receive.specs.Frame.{isComing, overran, room}
-use Rattle.receive.specs.Wire as wire
-use Rattle.receive.specs.Wire.{passes, begins, marked, ending}
-use Rattle.receive.specs.Reading as reading
-use Rattle.receive.specs.Reading.{marks, rxStatus, complete, readable, oldest, dataWord, afterRead, withoutOldest}
-use Rattle.receive.specs.Sound.{inOrder, earlySettled}
-use Rattle.receive.specs.Early.{earlyFlag, toldFlag}
+use Rattle.port_rules.specs.Card.{activated}
+use Rattle.port_rules.specs.Sound.{idSound}
+use Rattle.receive_rules.specs.Frame.{isComing, overran, room}
+use Rattle.receive_rules.specs.Wire as wire
+use Rattle.receive_rules.specs.Wire.{passes, begins, marked, ending}
+use Rattle.receive_rules.specs.Reading as reading
+use Rattle.receive_rules.specs.Reading.{marks, rxStatus, complete, readable, oldest, dataWord, afterRead, withoutOldest}
+use Rattle.receive_rules.specs.Sound.{inOrder, earlySettled}
+use Rattle.receive_rules.specs.Early.{earlyFlag, toldFlag}
 use Rattle.store.specs.Store.{atNewest}
-use Rattle.queue.specs.Queue as queue
-use Rattle.queue.specs.Sound.{allSized}
-use Rattle.outcomes.specs.Outcome.{some, enable, due}
-use Rattle.regs.specs.Update.{withId}
-use Rattle.regs.specs.Room.{txSize, rxSize}
-use Rattle.regs.specs.Status.{statusOf, interrupting}
-use Rattle.regs.specs.Settle.{settle}
-use Rattle.regs.specs.Power.{powerOn}
-use Rattle.regs.specs.Sound.{selectSound}
-use Rattle.commands.specs.Command.{acknowledge, act, command, commanded}
-use Rattle.window_read.specs.Read.{window1, wordAt, afterWord}
-use Rattle.window_write.specs.Write.{coversLow, coversHigh, write, write2, writeWord, writeByte}
-use Rattle.steps.specs.Access.{access, effect}
-use Rattle.steps.specs.Event.{wireStart, wireByte, wireEnd}
-use Rattle.talk.specs.Driver.{neverOpened}
-use Rattle.talk.specs.Talk.{run, readWords}
-use Rattle.opening.specs.Open.{openTalk}
-use Rattle.items.specs.Items.{idleTalk, fetchTalk}
-use Rattle.items.specs.Areas.{inLook, inFrame}
-use Rattle.service.specs.Service.{lookTalk}
-use Rattle.driver.specs.Calls.{openCall, serviceCall}
-use Rattle.driver.specs.Paper as paper
-use Rattle.driver.specs.Paper.{opened, ticket, report, statusAlone, frame, idle, short}
+use Rattle.transmit_rules.specs.Queue as queue
+use Rattle.transmit_rules.specs.QueueSound.{allSized}
+use Rattle.transmit_rules.specs.Outcome.{some, enable, due}
+use Rattle.card_rules.specs.Update.{withId}
+use Rattle.card_rules.specs.Room.{txSize, rxSize}
+use Rattle.card_rules.specs.Status.{statusOf, interrupting}
+use Rattle.card_rules.specs.Settle.{settle}
+use Rattle.card_rules.specs.Power.{powerOn}
+use Rattle.card_rules.specs.Sound.{selectSound}
+use Rattle.card_rules.specs.Command.{acknowledge, act, command, commanded}
+use Rattle.card_rules.specs.Read.{window1, wordAt, afterWord}
+use Rattle.card_rules.specs.Write.{coversLow, coversHigh, write, write2, writeWord, writeByte}
+use Rattle.card_rules.specs.Access.{access, effect}
+use Rattle.card_rules.specs.Event.{wireStart, wireByte, wireEnd}
+use Rattle.driver_rules.specs.Driver.{neverOpened}
+use Rattle.driver_rules.specs.Talk.{run, readWords}
+use Rattle.driver_rules.specs.Open.{openTalk}
+use Rattle.driver_rules.specs.Items.{idleTalk, fetchTalk}
+use Rattle.driver_rules.specs.Areas.{inLook, inFrame}
+use Rattle.driver_rules.specs.Service.{lookTalk}
+use Rattle.driver_rules.specs.Calls.{openCall, serviceCall}
+use Rattle.driver_rules.specs.Paper as paper
+use Rattle.driver_rules.specs.Paper.{opened, ticket, report, statusAlone, frame, idle, short}
 use Rattle.runs.specs.Run.{Bench, soundBench, Areas, Event, Start, Byte, End, Open, Service, Said, refused, told, answered, served, opens, serves, next, said, sayings}
 use Rattle.frames_carried.specs.Brings.{hears, isWhole, noCode, arrives, arrived}
 use Rattle.frames_carried.specs.Reads.{offered, reads, hostReads}

@@ -9,21 +9,21 @@ use lib.ListN.{length, getD, take, drop}
 use lib.Seq.{getD-drop, drop-drop}
 use lib.Dec.{eqb}
 use Rattle.store.specs.Store.{round4}
-use Rattle.receive.specs.Frame.{Frame, Rx, isComing}
-use Rattle.receive.specs.Update.{withRead, withReceiver}
-use Rattle.receive.specs.Reading as reading
-use Rattle.receive.specs.Reading.{readable, oldest, dataWord, afterRead, withoutOldest}
-use Rattle.receive.proofs.Whole.{word-read, read-moves}
-use Rattle.regs.specs.Adapter.{Adapter}
-use Rattle.regs.specs.Update.{withRx}
-use Rattle.regs.specs.Settle.{settle}
-use Rattle.commands.specs.Command.{command, commanded}
-use Rattle.window_read.specs.Read.{window0, window1, window2, window3, window5, wordAt, afterWord}
-use Rattle.window_write.specs.Write.{writeWord}
-use Rattle.steps.specs.Access.{ReadWord, WriteWord, Step, step, effect, access}
-use Rattle.steps.proofs.Ends.{awake}
-use Rattle.talk.specs.Talk as talk
-use Rattle.talk.specs.Talk.{afterReads, bytesRead}
+use Rattle.receive_rules.specs.Frame.{Frame, Rx, isComing}
+use Rattle.receive_rules.specs.Update.{withRead, withReceiver}
+use Rattle.receive_rules.specs.Reading as reading
+use Rattle.receive_rules.specs.Reading.{readable, oldest, dataWord, afterRead, withoutOldest}
+use Rattle.receive_rules.proofs.Whole.{word-read, read-moves}
+use Rattle.card_rules.specs.Adapter.{Adapter}
+use Rattle.card_rules.specs.Update.{withRx}
+use Rattle.card_rules.specs.Settle.{settle}
+use Rattle.card_rules.specs.Command.{command, commanded}
+use Rattle.card_rules.specs.Read.{window0, window1, window2, window3, window5, wordAt, afterWord}
+use Rattle.card_rules.specs.Write.{writeWord}
+use Rattle.card_rules.specs.Access.{ReadWord, WriteWord, Step, step, effect, access}
+use Rattle.card_rules.proofs.StepEnds.{awake}
+use Rattle.driver_rules.specs.Talk as talk
+use Rattle.driver_rules.specs.Talk.{afterReads, bytesRead}
 use Rattle.frames_carried.specs.Bytes.{octets}
 use Rattle.frames_carried.proofs.Good.{octet-at}
 

@@ -7,14 +7,14 @@ use native.Mathlib.Omega.{arith}
 use borrow.Author.Tests.{leb-true, le-leb, lt-leb, ltb-true, ltb-false, le-ltb, eq-eqb, not-true}
 use lib.ListN.{length, getD}
 use lib.Dec.{leb, ltb, eqb}
-use Rattle.laws.proofs.Tests.{both, join, neither, never, by-test, of-cond}
+use Rattle.bits.proofs.Tests.{both, join, neither, never, by-test, of-cond}
 use Rattle.store.specs.Store.{atNewest}
-use Rattle.receive.specs.Frame.{State, coming, whole, damaged, Frame, isComing, overran, room}
-use Rattle.receive.specs.Wire.{fresh, full, marked, takes, ending, endOf, ends}
-use Rattle.receive.specs.Reading.{marks, unread, complete}
-use Rattle.receive.specs.Sound.{sized, started, ended, inOrder}
-use Rattle.receive.proofs.Taking.{takes-none, takes-marks, takes-longer}
-use Rattle.talk.specs.Registers.{bad}
+use Rattle.receive_rules.specs.Frame.{State, coming, whole, damaged, Frame, isComing, overran, room}
+use Rattle.receive_rules.specs.Wire.{fresh, full, marked, takes, ending, endOf, ends}
+use Rattle.receive_rules.specs.Reading.{marks, unread, complete}
+use Rattle.receive_rules.specs.Sound.{sized, started, ended, inOrder}
+use Rattle.receive_rules.proofs.Taking.{takes-none, takes-marks, takes-longer}
+use Rattle.driver_rules.specs.Registers.{bad}
 use Rattle.frames_carried.specs.Bytes.{octets, codeFits, holdable}
 use Rattle.frames_carried.specs.Brings.{ifGood, good, newest, isWhole, noCode}
 use Rattle.frames_carried.specs.Reads.{offered}

@@ -7,13 +7,13 @@ use native.Mathlib.Omega.{arith}
 use borrow.Author.Tests.{ltb-true, lt-ltb, leb-false}
 use lib.ListN.{take, drop}
 use lib.Dec.{leb, ltb}
-use Rattle.laws.proofs.Tests.{both, join, of-test}
+use Rattle.bits.proofs.Tests.{both, join, of-test}
 use Rattle.store.specs.Store as store
 use Rattle.store.specs.Store.{round4}
-use Rattle.receive.specs.Frame.{State, Frame}
-use Rattle.receive.specs.View.{stateOf, told}
-use Rattle.regs.specs.Power.{powerOn}
-use Rattle.regs.specs.View.{view, rxSizeOf}
+use Rattle.receive_rules.specs.Frame.{State, Frame}
+use Rattle.receive_rules.specs.View.{stateOf, told}
+use Rattle.card_rules.specs.Power.{powerOn}
+use Rattle.card_rules.specs.View.{view, rxSizeOf}
 use Rattle.frames_carried.specs.Bytes.{octets, dirWords, codeFits, holdable}
 use Rattle.frames_carried.specs.Carried.{Stores-are-such}
 

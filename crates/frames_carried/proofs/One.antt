@@ -9,33 +9,33 @@ use lib.ListN.{length, take, drop, replicate, length-append, length-replicate}
 use lib.Dec.{leb, eqb}
 use Rattle.refusal.specs.declared.Refusal.the-variants.{NeverOpened, AreaShort}
 use Rattle.bits.specs.Bits.{has}
-use Rattle.laws.proofs.Tests.{join, neither}
+use Rattle.bits.proofs.Tests.{join, neither}
 use Rattle.store.specs.Store.{atNewest, round4}
 use Rattle.store.proofs.Laws.{at-snoc}
-use Rattle.receive.specs.Frame.{whole, Frame, isComing, overran, room}
-use Rattle.receive.specs.Wire as wires
-use Rattle.receive.specs.Wire.{fresh, ending, ends, passes}
-use Rattle.receive.specs.Early.{settleEarly}
-use Rattle.receive.specs.Reading.{complete, marks, withoutOldest}
-use Rattle.receive.proofs.Whole.{Storing, start-stored, byte-stored}
-use Rattle.outcomes.specs.Outcome.{some}
-use Rattle.regs.specs.Adapter.{Adapter}
-use Rattle.regs.specs.Room.{rxRoom}
-use Rattle.regs.specs.Settle.{settle}
-use Rattle.regs.specs.Status.{failure, flags, statusWord}
-use Rattle.steps.specs.Access.{ReadWord, WriteWord, step, access}
-use Rattle.steps.specs.Event as card
-use Rattle.card.specs.Calls.{onWire, offWire}
-use Rattle.talk.specs.declared.Driver.{Driver}
-use Rattle.talk.specs.Registers.{unfit, txComplete, rxComplete, bad}
-use Rattle.talk.specs.Talk.{Talk, done, Ran, run, afterReads, bytesRead}
-use Rattle.talk.proofs.Runs.{reads-law}
-use Rattle.items.specs.declared.Answer.the-variants as answer
-use Rattle.items.specs.Areas.{inLook, inFrame}
-use Rattle.items.specs.Items.{Serving, plain, fetchTalk, wordsIn}
-use Rattle.service.specs.Service.{lookTalk}
-use Rattle.driver.specs.Calls.{serviceCall}
-use Rattle.driver.specs.Paper.{frame}
+use Rattle.receive_rules.specs.Frame.{whole, Frame, isComing, overran, room}
+use Rattle.receive_rules.specs.Wire as wires
+use Rattle.receive_rules.specs.Wire.{fresh, ending, ends, passes}
+use Rattle.receive_rules.specs.Early.{settleEarly}
+use Rattle.receive_rules.specs.Reading.{complete, marks, withoutOldest}
+use Rattle.receive_rules.proofs.Whole.{Storing, start-stored, byte-stored}
+use Rattle.transmit_rules.specs.Outcome.{some}
+use Rattle.card_rules.specs.Adapter.{Adapter}
+use Rattle.card_rules.specs.Room.{rxRoom}
+use Rattle.card_rules.specs.Settle.{settle}
+use Rattle.card_rules.specs.Status.{failure, flags, statusWord}
+use Rattle.card_rules.specs.Access.{ReadWord, WriteWord, step, access}
+use Rattle.card_rules.specs.Event as card
+use Rattle.card_rules.specs.Calls.{onWire, offWire}
+use Rattle.driver_rules.specs.declared.Driver.{Driver}
+use Rattle.driver_rules.specs.Registers.{unfit, txComplete, rxComplete, bad}
+use Rattle.driver_rules.specs.Talk.{Talk, done, Ran, run, afterReads, bytesRead}
+use Rattle.driver_rules.proofs.Runs.{reads-law}
+use Rattle.driver_rules.specs.declared.Answer.the-variants as answer
+use Rattle.driver_rules.specs.Areas.{inLook, inFrame}
+use Rattle.driver_rules.specs.Items.{Serving, plain, fetchTalk, wordsIn}
+use Rattle.driver_rules.specs.Service.{lookTalk}
+use Rattle.driver_rules.specs.Calls.{serviceCall}
+use Rattle.driver_rules.specs.Paper.{frame}
 use Rattle.runs.specs.Run.{Bench, soundBench, withAdapter, Areas, full, Start, Byte, End, served, serves, serving, wire, taken, next, said, after}
 use Rattle.runs.proofs.Kept.{adapter-of}
 use Rattle.frames_carried.specs.Brings.{stored}
@@ -43,7 +43,7 @@ use Rattle.frames_carried.specs.Reads.{laidIn}
 use Rattle.frames_carried.specs.Carried.{Taken, One-good-frame-is-stored, Waiting, One-good-frame-is-handed-up}
 use Rattle.frames_carried.proofs.Good.{shows, whole-fine}
 use Rattle.frames_carried.proofs.Fetch.{At}
-use Rattle.talk.proofs.Status.{status-window, status-received, status-completed, status-failed}
+use Rattle.driver_rules.proofs.Status.{status-window, status-received, status-completed, status-failed}
 use Rattle.frames_carried.proofs.Service.{read-status, read-rx, dropped, all-read, after-all}
 
 -- ---- stored

@@ -8,37 +8,37 @@ use lib.ListN.{length, take}
 use lib.Dec.{eqb, ltb}
 use Rattle.refusal.specs.declared.Refusal.the-variants.{CardUnfit, BudgetShort}
 use Rattle.bits.specs.Bits.{has}
-use Rattle.laws.proofs.Tests.{both, by-test, of-test, of-cond}
-use Rattle.receive.specs.Frame.{Frame, isComing}
-use Rattle.receive.specs.Reading as reading
-use Rattle.receive.specs.Reading.{complete, withoutOldest}
-use Rattle.receive.specs.Sound.{inOrder}
-use Rattle.receive.proofs.Facts.{sound-told}
-use Rattle.regs.specs.Adapter.{Adapter}
-use Rattle.regs.specs.Update.{withRx}
-use Rattle.regs.specs.Room.{rxRoom}
-use Rattle.regs.specs.Status.{flags, statusWord}
-use Rattle.regs.specs.Settle.{settle}
-use Rattle.regs.specs.Sound.{sound}
-use Rattle.regs.proofs.Sides.{rx-of, settle-stays}
-use Rattle.window_read.specs.Read.{wordAt, afterWord}
-use Rattle.steps.specs.Access.{ReadWord, WriteWord, Step, step, effect, access}
-use Rattle.steps.proofs.Ends.{asleep, awake}
-use Rattle.talk.specs.declared.Driver.{Driver}
-use Rattle.talk.specs.Registers.{rxDiscard, unfit, txComplete, rxComplete, bad}
-use Rattle.talk.specs.Talk.{Talk, done, order, Ran, run, afterReads, bytesRead}
-use Rattle.talk.proofs.Runs.{reads-law}
-use Rattle.items.specs.declared.Answer.the-variants.{Refused}
-use Rattle.items.specs.declared.Answer.the-variants as answer
-use Rattle.items.specs.Items.{Serving, plain, short, reportTalk, idleTalk, fetchTalk, wordsIn}
-use Rattle.service.specs.Service.{lookTalk, receiveTalk, dropTalk}
+use Rattle.bits.proofs.Tests.{both, by-test, of-test, of-cond}
+use Rattle.receive_rules.specs.Frame.{Frame, isComing}
+use Rattle.receive_rules.specs.Reading as reading
+use Rattle.receive_rules.specs.Reading.{complete, withoutOldest}
+use Rattle.receive_rules.specs.Sound.{inOrder}
+use Rattle.receive_rules.proofs.Facts.{sound-told}
+use Rattle.card_rules.specs.Adapter.{Adapter}
+use Rattle.card_rules.specs.Update.{withRx}
+use Rattle.card_rules.specs.Room.{rxRoom}
+use Rattle.card_rules.specs.Status.{flags, statusWord}
+use Rattle.card_rules.specs.Settle.{settle}
+use Rattle.card_rules.specs.Sound.{sound}
+use Rattle.card_rules.proofs.Sides.{rx-of, settle-stays}
+use Rattle.card_rules.specs.Read.{wordAt, afterWord}
+use Rattle.card_rules.specs.Access.{ReadWord, WriteWord, Step, step, effect, access}
+use Rattle.card_rules.proofs.StepEnds.{asleep, awake}
+use Rattle.driver_rules.specs.declared.Driver.{Driver}
+use Rattle.driver_rules.specs.Registers.{rxDiscard, unfit, txComplete, rxComplete, bad}
+use Rattle.driver_rules.specs.Talk.{Talk, done, order, Ran, run, afterReads, bytesRead}
+use Rattle.driver_rules.proofs.Runs.{reads-law}
+use Rattle.driver_rules.specs.declared.Answer.the-variants.{Refused}
+use Rattle.driver_rules.specs.declared.Answer.the-variants as answer
+use Rattle.driver_rules.specs.Items.{Serving, plain, short, reportTalk, idleTalk, fetchTalk, wordsIn}
+use Rattle.driver_rules.specs.Service.{lookTalk, receiveTalk, dropTalk}
 use Rattle.runs.proofs.Kept.{access-sound}
 use Rattle.frames_carried.specs.Bytes.{octets, holdable}
 use Rattle.frames_carried.specs.Brings.{ifGood, good, isWhole}
 use Rattle.frames_carried.specs.Reads.{offered}
 use Rattle.frames_carried.proofs.Still.{Still, Quiet, still-run, isFrame, Nothing, quiet-refused, quiet-report, quiet-idle}
 use Rattle.frames_carried.proofs.Good.{Intact, intact-drop, Tails, tail-same, tail-then, tail-drop, holds-first, oldest-of, oldest-sized, shows, fine-status, bad-none, one-good, offered-some}
-use Rattle.talk.proofs.Status.{status-received, fit-window}
+use Rattle.driver_rules.proofs.Status.{status-received, fit-window}
 use Rattle.frames_carried.proofs.Fetch.{status-access, discard-access, At, reads, take-pairs}
 
 -- ---- what a service keeps, and what it does

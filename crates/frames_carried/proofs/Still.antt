@@ -8,28 +8,28 @@ use lib.ListN.{length}
 use lib.Dec.{eqb, ltb}
 use Rattle.refusal.specs.declared.Refusal.{Refusal}
 use Rattle.refusal.specs.declared.Refusal.the-variants.{BudgetShort}
-use Rattle.laws.proofs.Tests.{of-cond, by-test}
+use Rattle.bits.proofs.Tests.{of-cond, by-test}
 use Rattle.store.specs.Store.{round4}
-use Rattle.regs.specs.Adapter.{Adapter}
-use Rattle.regs.specs.Settle.{settle}
-use Rattle.commands.specs.Command.{act, command, commanded, acknowledge}
-use Rattle.window_read.specs.Read.{afterWord}
-use Rattle.idport.specs.declared.IdState.{IdState}
-use Rattle.window_write.specs.declared.Lanes.{Lanes}
-use Rattle.window_write.specs.declared.Lanes.the-variants.{Low, High}
-use Rattle.window_write.specs.Write.{coversLow, coversHigh, write0, write1, write2, write3, write, writeWord, writeByte}
-use Rattle.steps.specs.Access.{Access, ReadWord, ReadByte, WriteWord, WriteByte, Step, effect, access}
-use Rattle.steps.proofs.Ends.{asleep, awake}
-use Rattle.talk.specs.declared.Driver.{Driver}
-use Rattle.talk.specs.Registers.{unfit}
-use Rattle.talk.specs.Talk.{Talk, done, ask, run, writeWords}
-use Rattle.talk.specs.Driver.{withError}
-use Rattle.items.specs.declared.Answer.{Answer}
-use Rattle.items.specs.declared.Answer.the-variants as answer
-use Rattle.items.specs.Items.{Serving, plain, isError, seen, reports, reportTalk, idleTalk}
-use Rattle.opening.specs.Open.{openTalk}
-use Rattle.talk.specs.Packet.{outside, packetWords}
-use Rattle.sending.specs.Send.{Sending, sendTalk}
+use Rattle.card_rules.specs.Adapter.{Adapter}
+use Rattle.card_rules.specs.Settle.{settle}
+use Rattle.card_rules.specs.Command.{act, command, commanded, acknowledge}
+use Rattle.card_rules.specs.Read.{afterWord}
+use Rattle.port_rules.specs.declared.IdState.{IdState}
+use Rattle.card_rules.specs.declared.Lanes.{Lanes}
+use Rattle.card_rules.specs.declared.Lanes.the-variants.{Low, High}
+use Rattle.card_rules.specs.Write.{coversLow, coversHigh, write0, write1, write2, write3, write, writeWord, writeByte}
+use Rattle.card_rules.specs.Access.{Access, ReadWord, ReadByte, WriteWord, WriteByte, Step, effect, access}
+use Rattle.card_rules.proofs.StepEnds.{asleep, awake}
+use Rattle.driver_rules.specs.declared.Driver.{Driver}
+use Rattle.driver_rules.specs.Registers.{unfit}
+use Rattle.driver_rules.specs.Talk.{Talk, done, ask, run, writeWords}
+use Rattle.driver_rules.specs.Driver.{withError}
+use Rattle.driver_rules.specs.declared.Answer.{Answer}
+use Rattle.driver_rules.specs.declared.Answer.the-variants as answer
+use Rattle.driver_rules.specs.Items.{Serving, plain, isError, seen, reports, reportTalk, idleTalk}
+use Rattle.driver_rules.specs.Open.{openTalk}
+use Rattle.driver_rules.specs.Packet.{outside, packetWords}
+use Rattle.driver_rules.specs.Send.{Sending, sendTalk}
 
 pub record Still (a b : Adapter) : Type 0 where
   pub frames : b .rx .frames ≡ a .rx .frames

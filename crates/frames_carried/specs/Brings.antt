@@ -4,9 +4,9 @@ use mathlib.Core.List.{List, [], _∷_, _++_}
 use Prim.Native.Nat.{ℕ}
 use lib.ListN.{length}
 use lib.Dec.{leb, eqb}
-use Rattle.receive.specs.Frame.{State, coming, whole, damaged, Frame}
-use Rattle.receive.specs.Wire.{endOf}
-use Rattle.card.specs.Calls.{offWire}
+use Rattle.receive_rules.specs.Frame.{State, coming, whole, damaged, Frame}
+use Rattle.receive_rules.specs.Wire.{endOf}
+use Rattle.card_rules.specs.Calls.{offWire}
 use Rattle.runs.specs.Run.{Bench, Event, Start, Byte, End, Sent, Collided, Open, Send, Service, wire, next}
 
 -- the stored frames, oldest first

@@ -3,7 +3,7 @@ use mathlib.Core.Bool.{Bool, true, false, _&&_}
 use mathlib.Core.List.{List, [], _∷_}
 use Prim.Native.Nat.{ℕ}
 use lib.Dec.{ltb}
-use Rattle.receive.specs.Frame.{State, coming, whole, damaged, Frame}
+use Rattle.receive_rules.specs.Frame.{State, coming, whole, damaged, Frame}
 use Rattle.runs.specs.Run.{Event, Start, Byte, End, Sent, Collided, Open, Send, Service}
 
 -- every value is a byte

@@ -5,14 +5,14 @@ use mathlib.Core.List.{List, [], _∷_, _++_, map}
 use Prim.Native.Nat.{ℕ, _+_, _≤_}
 use lib.ListN.{length}
 use Rattle.store.specs.Store.{round4}
-use Rattle.receive.specs.Frame.{whole, Frame, room}
-use Rattle.receive.specs.Wire.{passes}
-use Rattle.regs.specs.declared.Card.{Card}
-use Rattle.regs.specs.Room.{rxRoom}
-use Rattle.regs.specs.Status.{failure}
-use Rattle.regs.specs.View.{view}
-use Rattle.items.specs.Items.{wordsIn}
-use Rattle.driver.specs.Paper.{frame}
+use Rattle.receive_rules.specs.Frame.{whole, Frame, room}
+use Rattle.receive_rules.specs.Wire.{passes}
+use Rattle.card_rules.specs.declared.Card.{Card}
+use Rattle.card_rules.specs.Room.{rxRoom}
+use Rattle.card_rules.specs.Status.{failure}
+use Rattle.card_rules.specs.View.{view}
+use Rattle.driver_rules.specs.Items.{wordsIn}
+use Rattle.driver_rules.specs.Paper.{frame}
 use Rattle.runs.specs.Run.{Bench, soundBench, Areas, full, Event, Start, Byte, End, Service, served, wire, next, said, after, sayings}
 use Rattle.runs.specs.Sound.{fresh}
 use Rattle.frames_carried.specs.Bytes.{octets, holdable, dirWords, wireOctets, between, bytesIn}

@@ -4,9 +4,9 @@ use mathlib.Core.List.{List, [], _∷_, _++_}
 use Prim.Native.Nat.{ℕ}
 use lib.ListN.{length, drop}
 use lib.Dec.{leb}
-use Rattle.driver.specs.HandUp as handUp
-use Rattle.driver.specs.Paper as paper
-use Rattle.driver.specs.Paper.{Paper, opened, ticket, report, statusAlone, frame, idle, short}
+use Rattle.driver_rules.specs.HandUp as handUp
+use Rattle.driver_rules.specs.Paper as paper
+use Rattle.driver_rules.specs.Paper.{Paper, opened, ticket, report, statusAlone, frame, idle, short}
 use Rattle.runs.specs.Run.{Areas, Said, refused, told, answered, served}
 
 -- Up to 256 bytes land at the front of the lookahead area, more at that of the frame area; no other byte of either changes.

@@ -1,25 +1,13 @@
--- Digits, computed. Assumes nothing.
+-- Where a word ends, computed. Assumes nothing.
 use mathlib.Core.Path.{_≡_, refl}
-use Rattle.hex.specs.Text.{valueOf, digitOf}
+use Rattle.bench_rules.specs.Text.{none, valueOf, digitOf, valued, readOn, numberOf, wordText}
 
--- F and f are 15; G and g are no digits
-upper-f : valueOf 0x46 ≡ 15
-unfolding valueOf
-upper-f = refl
+-- FFFFh, the last of four digits
+four-digits : numberOf 16 (wordText 0xFFFF) ≡ 0xFFFF
+unfolding numberOf readOn valued valueOf digitOf
+four-digits = refl
 
-upper-g : valueOf 0x47 ≡ 16
-unfolding valueOf
-upper-g = refl
-
-lower-f : valueOf 0x66 ≡ 15
-unfolding valueOf
-lower-f = refl
-
-lower-g : valueOf 0x67 ≡ 16
-unfolding valueOf
-lower-g = refl
-
--- 10 is printed as A
-ten : digitOf 10 ≡ 0x41
-unfolding digitOf
-ten = refl
+-- 10001h has five: four digits cannot tell it
+five-digits : numberOf 16 (wordText 0x10001) ≡ none
+unfolding numberOf readOn valued valueOf digitOf
+five-digits = refl

@@ -1,4 +1,3 @@
--- Laws of putting and reading, and examples.
+-- The law, what leads to it, and examples.
+pub mod Back
 pub mod Examples
-pub mod Placed
-pub mod Spelling

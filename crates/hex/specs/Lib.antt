@@ -1,2 +1,2 @@
--- What the contracts of `hex` cite.
-pub mod Text
+-- What is printed is read back.
+pub mod RoundTrip

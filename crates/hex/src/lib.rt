@@ -1,8 +1,12 @@
-// Digits: what numbers and byte strings are in text.
-// Here the structs and definitions; the functions are the crate `hex_code`.
+// Digits: numbers and byte strings are read from text and put into text.
+mod printing;
+mod reading;
+mod round_trip; // round_trip.rt: what `hex` prints it reads back
 
-// A byte string in hex: how many bytes, or not one.
-pub enum Spelled {
-    Bytes(usize),
-    Wrong,
-}
+pub use printing::put;
+pub use printing::put_byte;
+pub use printing::put_bytes;
+pub use printing::put_decimal;
+pub use printing::put_word;
+pub use reading::number;
+pub use reading::pairs;

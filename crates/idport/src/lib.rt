@@ -1,21 +1,104 @@
 // One card on the ID port: document 01, "Finding cards on one ID port", and the manual's ISA Activation chapter.
-// Here the structs and definitions; the functions are the crate `idport_code`.
+ghost use mathlib.Core.Path.{_≡_};
+ghost use Rattle.port_rules.specs.Sequence.{The-sequence};
+ghost use Rattle.port_rules.specs.Card.{idFresh, idWrite, idBit, idAfterRead};
+ghost use Rattle.port_rules.specs.Sound.{idSound, Every-step-keeps-soundness};
+use port_rules::IdState;
 
-// A card on the ID port. In ID_WAIT (`command` is false) it listens for the sequence at the port that a zero chose; in ID_CMD it obeys.
-#[repr(C)]
-pub struct IdState {
-    pub command: bool,
-    // x of port 1x0h, 16 for none.
-    pub port: u8,
-    // Place in the sequence.
-    pub at: u8,
-    pub tag: u8,
-    // The EEPROM Data register.
-    pub shift: u16,
-    // The Address Configuration register.
-    pub address: u16,
-    pub active: bool,
-    // A reset came through the ID port and the card has not carried it out yet.
-    pub due: bool,
-    pub words: [u16; 64],
+pub mod cards; // cards.rt: what is gathered over the cards on one ID port, and the tests of the calls' arguments
+mod command;
+mod contend;
+pub mod one_card; // one_card.rt: one card's steps at the ID port
+pub mod sequence;
+mod wait;
+
+pub use cards::all_sound;
+pub use cards::carried;
+pub use cards::digit;
+pub use cards::is_port;
+pub use cards::names;
+pub use one_card::bit;
+pub use one_card::heard;
+pub use one_card::written;
+pub use sequence::byte_at;
+
+// A card after power-on, with these words in its EEPROM.
+pub fn fresh(words: [u16; 64]) -> IdState
+    ensures { λ r. ⌜ r ≡ idFresh words ⌝ }
+{
+    let address = words[8];
+    IdState {
+        command: false,
+        port: 16,
+        at: 0,
+        tag: 0,
+        shift: 0,
+        address: address,
+        active: false,
+        due: false,
+        words: words,
+    }
 }
+
+// Whether the state is one that a card can be in.
+pub fn id_sound(s: IdState) -> bool
+    ensures { λ r. ⌜ r ≡ idSound s ⌝ }
+{
+    (s.port <= 16)
+        & (s.at <= 254)
+        & (s.tag <= 7)
+        & (!s.command | ((s.port <= 15) & (s.at == 0)))
+        & (!(s.port == 16) | (s.at == 0))
+}
+
+// A byte written to port 1x0h, where `port` is x.
+pub fn id_write(s: IdState, port: u8, byte: u8) -> IdState
+    ensures { λ r. ⌜ r ≡ idWrite s port byte ⌝ }
+{
+    let own = s.port;
+    if s.command {
+        if port == own {
+            return command::obey(s, byte);
+        }
+        return s;
+    }
+    wait::listen(s, port, byte)
+}
+
+// The bit that the card drives when the port is read; a card that drives none leaves the bus its 1.
+pub fn id_bit(s: IdState, port: u8) -> u8
+    ensures { λ r. ⌜ r ≡ idBit s port ⌝ }
+{
+    if contend::drives(s, port) {
+        return (s.shift >> 15) as u8;
+    }
+    1
+}
+
+// The card after a read of the port that gave `bus`.
+pub fn id_after_read(mut s: IdState, port: u8, bus: u8) -> IdState
+    ensures { λ r. ⌜ r ≡ idAfterRead s port bus ⌝ }
+{
+    if contend::drives(s, port) {
+        let mine = id_bit(s, port);
+        s.shift = s.shift << 1;
+        if bus == mine {
+            return s;
+        }
+        s.command = false;
+        s.port = 16;
+        s.at = 0;
+        return s;
+    }
+    s
+}
+
+// The table starts at FFh and ends at 98h, and a zero never occurs in it.
+pub fn the_sequence()
+    ensures { λ r. ⌜ The-sequence ⌝ }
+{}
+
+// A card is sound after power-on, and every write and read keeps it so.
+pub fn every_step_keeps_soundness()
+    ensures { λ r. ⌜ Every-step-keeps-soundness ⌝ }
+{}

@@ -1,26 +1,18 @@
-// What the items of a service answer and leave: the report of a packet, a good frame, idle.
-// Here the structs and definitions; the functions are the crate `items_code`.
-use refusal::Refusal;
-use regs::Card;
-use talk::Driver;
+// The items of a service: what is told of a report and of a frame, and the accesses that fetch them.
 
-// What service answers; the count of accesses stands beside it.
-pub enum Answer {
-    // The oldest unreported ticket, and the status.
-    Reported(u16, u16),
-    // The status alone: no packet is unreported.
-    Status(u16),
-    // The bytes of a frame: up to 256 lie in the lookahead area, more in the frame area.
-    Frame(usize),
-    Idle,
-    Refused(Refusal),
-}
+pub mod fetching; // fetching.rt: the fetch of a good frame, an item of a service
+pub mod reporting; // reporting.rt: the report of a packet, an item of a service
+mod telling; // telling.rt: what the items of a service answer and leave: the report of a packet, a good frame, idle
+pub mod tests; // tests.rt: what a driver call is made of: the registers and commands it names, the driver's state, and the tests of what is read and sent
 
-// What a part of a service leaves. Paused, it goes on with a look at the accesses left.
-pub struct Served {
-    pub driver: Driver,
-    pub card: Card,
-    pub answer: Answer,
-    pub left: usize,
-    pub paused: bool,
-}
+pub use fetching::fetch;
+pub use reporting::report;
+pub use tests::byte_of;
+pub use tests::driver_sound;
+pub use tests::is_bad;
+pub use tests::is_outside;
+pub use tests::is_rx_complete;
+pub use tests::is_tx_complete;
+pub use tests::is_unfit;
+pub use tests::lacks_room;
+pub use tests::round_up;

@@ -8,11 +8,11 @@ use native.Mathlib.Omega.{arith}
 use lib.Dec.{leb, eqb}
 use lib.ListN.{length, length-take}
 use lib.Seq.{take-at}
-use Rattle.idport.specs.declared.IdState.{IdState}
-use Rattle.search.specs.declared.Bus.{Bus}
-use Rattle.search.specs.Port.{held, rest}
-use Rattle.search.specs.Calls.{told, padded, Outcome, allSound, allowed, naming, digitOf, refusing, judged}
-use Rattle.search_code.proofs.Outcomes.{unsound, outside, goes}
+use Rattle.port_rules.specs.declared.IdState.{IdState}
+use Rattle.port_rules.specs.declared.Bus.{Bus}
+use Rattle.port_rules.specs.Port.{held, rest}
+use Rattle.port_rules.specs.Calls.{told, padded, Outcome, allSound, allowed, naming, digitOf, refusing, judged}
+use Rattle.port.proofs.Outcomes.{unsound, outside, goes}
 use Rattle.lent_port.specs.Lent.{lent, Alike, The-same-as-by-value}
 use Rattle.lent_port.proofs.Slices.{held-lent, unsound-lent, outside-lent, goes-lent, Talked, over, writing, reading, searching, activating}
 

@@ -10,21 +10,21 @@ use lib.Dec.{ltb}
 use lib.ListN.{length, take, getD, set, length-set, List·getD-eq-default, List·getD-append}
 use lib.Seq.{take-all, take-suc, take-suc-set, getD-take, set-out}
 use borrow.Author.Tests.{ltb-true, ltb-false}
-use Rattle.idport.specs.declared.IdState.{IdState}
-use Rattle.idport.specs.Sound.{idSound}
-use Rattle.search.specs.declared.Bus.{Bus}
-use Rattle.search.specs.declared.AfterSearch.{AfterSearch}
-use Rattle.search.specs.declared.AfterActivation.{AfterActivation}
-use Rattle.search.specs.declared.Activation.{Activation}
-use Rattle.search.specs.Port.{held, rest}
-use Rattle.search.specs.Calls.{refused, told, Outcome, foundOf, activatedOf, padded, allSound, allowed, naming, digitOf, refusing, judged, findsCards, activatesCard}
-use Rattle.search.proofs.Cards.{sound-turn}
-use Rattle.laws.proofs.Tests.{both}
-use Rattle.search_code.proofs.Outcomes.{outside, goes, few}
+use Rattle.port_rules.specs.declared.IdState.{IdState}
+use Rattle.port_rules.specs.Sound.{idSound}
+use Rattle.port_rules.specs.declared.Bus.{Bus}
+use Rattle.port_rules.specs.declared.AfterSearch.{AfterSearch}
+use Rattle.port_rules.specs.declared.AfterActivation.{AfterActivation}
+use Rattle.port_rules.specs.declared.Activation.{Activation}
+use Rattle.port_rules.specs.Port.{held, rest}
+use Rattle.port_rules.specs.Calls.{refused, told, Outcome, foundOf, activatedOf, padded, allSound, allowed, naming, digitOf, refusing, judged, findsCards, activatesCard}
+use Rattle.port_rules.proofs.Cards.{sound-turn}
+use Rattle.bits.proofs.Tests.{both}
+use Rattle.port.proofs.Outcomes.{outside, goes, few}
 use Rattle.lent_port.specs.declared.Listed.{Listed}
-use Rattle.lent_steps.specs.declared.seats.Taken.{Taken}
-use Rattle.lent_steps.specs.Steps.{emptied, takenWith, foundIn, activatedIn, seatOf}
-use Rattle.lent_steps.proofs.Places.{same-at}
+use Rattle.lent_port.specs.declared.seats.Taken.{Taken}
+use Rattle.lent_port.specs.Steps.{emptied, takenWith, foundIn, activatedIn, seatOf}
+use Rattle.lent_port.proofs.Places.{same-at}
 use Rattle.lent_port.specs.Lent.{lent, foundOver, activatedOver, listedOf}
 use Rattle.lent_port.proofs.Turns.{noCard, gone, gone-is}
 use Rattle.lent_port.proofs.Slices.{fits-lent, unsound-lent, outside-lent, goes-lent, Talked, over, over-lent, searching, activating}

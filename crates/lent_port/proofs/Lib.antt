@@ -1,6 +1,7 @@
--- Laws that the proofs of `lent_port` cite.
-pub mod Turns
-pub mod Slices
-pub mod Looked
-pub mod Gathered
+--
 pub mod Alikes
+pub mod Gathered
+pub mod Looked
+pub mod Places
+pub mod Slices
+pub mod Turns

@@ -7,17 +7,17 @@ use mathlib.Core.List.{List, [], _∷_, map}
 use native.Mathlib.Omega.{arith}
 use lib.ListN.{length, take, getD}
 use lib.Seq.{take-all}
-use Rattle.idport.specs.declared.IdState.{IdState}
-use Rattle.idport.specs.Card.{idWrite, idBit, idAfterRead}
-use Rattle.search.specs.declared.Wrote.{Wrote}
-use Rattle.search.specs.declared.Bit.{Bit}
-use Rattle.search.specs.Port.{portWrite, portBit, portRead}
-use Rattle.search.specs.Calls.{Reply, refused, told, wroteReply, bitReply, padded, allSound, allowed, digitOf, judged, ended, portWrites, portReads}
-use Rattle.search.proofs.Cards.{bit-turn, sound-turn}
-use Rattle.lent_steps.specs.declared.look.Seen.{Seen}
-use Rattle.lent_steps.specs.declared.look.Step.{Step}
+use Rattle.port_rules.specs.declared.IdState.{IdState}
+use Rattle.port_rules.specs.Card.{idWrite, idBit, idAfterRead}
+use Rattle.port_rules.specs.declared.Wrote.{Wrote}
+use Rattle.port_rules.specs.declared.Bit.{Bit}
+use Rattle.port_rules.specs.Port.{portWrite, portBit, portRead}
+use Rattle.port_rules.specs.Calls.{Reply, refused, told, wroteReply, bitReply, padded, allSound, allowed, digitOf, judged, ended, portWrites, portReads}
+use Rattle.port_rules.proofs.Cards.{bit-turn, sound-turn}
+use Rattle.lent_port.specs.declared.look.Seen.{Seen}
+use Rattle.lent_port.specs.declared.look.Step.{Step}
 use Rattle.lent_port.specs.Lent.{lent, wroteOver, readOver}
-use Rattle.lent_steps.specs.Steps.{unseen, seenWith, portFits, stepOf, writingOf, readingOf, writtenBy, heardBy, replyOf}
+use Rattle.lent_port.specs.Steps.{unseen, seenWith, portFits, stepOf, writingOf, readingOf, writtenBy, heardBy, replyOf}
 use Rattle.lent_port.proofs.Turns.{gone, gone-map, map-same}
 use Rattle.lent_port.proofs.Slices.{held-lent, seated-lent, fits-lent, write-length, read-length, unsound-lent, outside-lent, goes-lent}
 

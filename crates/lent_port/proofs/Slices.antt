@@ -9,13 +9,13 @@ use lib.Dec.{leb, eqb}
 use lib.ListN.{length, length-map}
 use lib.Seq.{take-length, drop-length}
 use borrow.Author.Tests.{leb-true, leb-false, le-leb, lt-leb}
-use Rattle.idport.specs.declared.IdState.{IdState}
-use Rattle.search.specs.declared.Bus.{Bus}
-use Rattle.search.specs.Port.{held, rest, seated, Access, write, read, Talk, done, ask, run, value, after, portWrite, portBit, portRead}
-use Rattle.search.specs.Search.{search, activate}
-use Rattle.search.specs.Calls.{told, Outcome, padded, allSound, allowed, refusing, judged, ended}
+use Rattle.port_rules.specs.declared.IdState.{IdState}
+use Rattle.port_rules.specs.declared.Bus.{Bus}
+use Rattle.port_rules.specs.Port.{held, rest, seated, Access, write, read, Talk, done, ask, run, value, after, portWrite, portBit, portRead}
+use Rattle.port_rules.specs.Search.{search, activate}
+use Rattle.port_rules.specs.Calls.{told, Outcome, padded, allSound, allowed, refusing, judged, ended}
 use Rattle.lent_port.specs.Lent.{lent}
-use Rattle.lent_steps.specs.Steps.{portFits}
+use Rattle.lent_port.specs.Steps.{portFits}
 
 -- all the slice's cards are there
 pub held-lent : (xs : List IdState) → held (lent xs) ≡ xs

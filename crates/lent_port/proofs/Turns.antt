@@ -8,8 +8,8 @@ use native.Mathlib.Nat.{not-suc-le-zero, le-of-suc-le-suc, add-suc, suc-add, add
 use mathlib.Core.List.{List, [], _∷_, map}
 use lib.ListN.{length, getD, set}
 use lib.Seq.{ext-getD}
-use Rattle.idport.specs.declared.IdState.{IdState}
-use Rattle.idport.specs.Card.{idFresh}
+use Rattle.port_rules.specs.declared.IdState.{IdState}
+use Rattle.port_rules.specs.Card.{idFresh}
 
 abbrev pub noCard : IdState
 noCard = idFresh []

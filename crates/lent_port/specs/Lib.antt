@@ -1,2 +1,3 @@
--- What the contracts of `lent_port` cite: the slice as a bus.
+--
 pub mod Lent
+pub mod Steps

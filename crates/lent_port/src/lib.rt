@@ -1,17 +1,19 @@
 // The cards on one ID port as a lent slice of ID states: a byte written, the port read, the search and the activation of a found card.
-// Each contract is that of the call over a bus by value (crate `search`), with the slice for the bus; a refused call leaves the slice as it came.
+// Each contract is that of the call over a bus by value (crate `port`), with the slice for the bus; a refused call leaves the slice as it came.
 // A write and a read step each card where it stands. The search and the activation take the slice into the array by value, run there, and put it back.
 ghost use mathlib.Core.Path.{_≡_};
-ghost use Rattle.search.specs.Calls.{portWrites, portReads, findsCards, activatesCard};
+ghost use Rattle.port_rules.specs.Calls.{portWrites, portReads, findsCards, activatesCard};
 ghost use Rattle.lent_port.specs.Lent.{lent, wroteOver, readOver, foundOver, activatedOver, listedOf, The-same-as-by-value};
-use idport::IdState;
-use lent_steps::look;
-use lent_steps::seats;
-use search::Activation;
-use search::AfterSearch;
-use search::Bit;
-use search::Found;
-use search::Wrote;
+use port_rules::Activation;
+use port_rules::AfterSearch;
+use port_rules::Bit;
+use port_rules::Found;
+use port_rules::IdState;
+use port_rules::Wrote;
+
+mod look;
+mod seats;
+mod steps; // steps.rt: the covered steps of the calls over a lent slice of ID states: a look at one card, one card stepped, one card taken in or put back
 
 // A byte written to the port, which each card sees. A port is its I/O address, 100h to 1F0h.
 pub fn write(cards: &mut [IdState], port: u16, byte: u8) -> Wrote

@@ -7,17 +7,17 @@ use native.Mathlib.Omega.{arith}
 use lib.ListN.{length}
 use lib.Dec.{ltb}
 use Rattle.store.specs.Store.{atNewest}
-use Rattle.receive.specs.Frame.{State, whole, damaged, overran}
-use Rattle.receive.specs.Wire as wire
-use Rattle.receive.specs.Wire.{ending}
-use Rattle.regs.specs.Adapter.{Adapter}
-use Rattle.regs.specs.Settle.{settle}
-use Rattle.steps.specs.Event as card
-use Rattle.talk.specs.declared.Driver.{Driver}
-use Rattle.talk.specs.Talk.{run}
-use Rattle.items.specs.Areas.{inLook, inFrame}
-use Rattle.service.specs.Service.{lookTalk}
-use Rattle.driver.specs.Calls.{serviceCall}
+use Rattle.receive_rules.specs.Frame.{State, whole, damaged, overran}
+use Rattle.receive_rules.specs.Wire as wire
+use Rattle.receive_rules.specs.Wire.{ending}
+use Rattle.card_rules.specs.Adapter.{Adapter}
+use Rattle.card_rules.specs.Settle.{settle}
+use Rattle.card_rules.specs.Event as card
+use Rattle.driver_rules.specs.declared.Driver.{Driver}
+use Rattle.driver_rules.specs.Talk.{run}
+use Rattle.driver_rules.specs.Areas.{inLook, inFrame}
+use Rattle.driver_rules.specs.Service.{lookTalk}
+use Rattle.driver_rules.specs.Calls.{serviceCall}
 use Rattle.runs.specs.Run.{Bench, Areas, full, End, Service, serves, next, said}
 use Rattle.no_trace.specs.Stretch.{isDamaged, newestDamaged, givesCode}
 use Rattle.no_trace.specs.NoTrace.{Closing, ignored, dropped}

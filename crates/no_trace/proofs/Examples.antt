@@ -1,38 +1,38 @@
 -- The worked examples, by computing. Assumes nothing.
 use mathlib.Core.Path.{refl}
 use native.Mathlib.Omega.{arith}
-use Rattle.receive.specs.Frame.{isComing, overran, room}
-use Rattle.receive.specs.Wire as wire
-use Rattle.receive.specs.Wire.{passes, begins, marked, ending}
-use Rattle.receive.specs.Reading as reading
-use Rattle.receive.specs.Reading.{marks, rxStatus, complete, readable, oldest, dataWord, afterRead, withoutOldest}
-use Rattle.receive.specs.Sound.{inOrder, earlySettled}
-use Rattle.receive.specs.Early.{earlyFlag, toldFlag}
+use Rattle.receive_rules.specs.Frame.{isComing, overran, room}
+use Rattle.receive_rules.specs.Wire as wire
+use Rattle.receive_rules.specs.Wire.{passes, begins, marked, ending}
+use Rattle.receive_rules.specs.Reading as reading
+use Rattle.receive_rules.specs.Reading.{marks, rxStatus, complete, readable, oldest, dataWord, afterRead, withoutOldest}
+use Rattle.receive_rules.specs.Sound.{inOrder, earlySettled}
+use Rattle.receive_rules.specs.Early.{earlyFlag, toldFlag}
 use Rattle.store.specs.Store.{atNewest}
-use Rattle.queue.specs.Queue as queue
-use Rattle.queue.specs.Write.{put, completed}
-use Rattle.queue.specs.Sound.{allSized}
-use Rattle.queue.specs.Leave.{toldOf, others, oldestWanted}
-use Rattle.outcomes.specs.Outcome.{top, some, push, rest, succeeded, enable, due}
-use Rattle.transmit.specs.Tx as tx
-use Rattle.idport.specs.Sound.{idSound}
-use Rattle.regs.specs.Room.{txSize, rxSize}
-use Rattle.regs.specs.Status.{statusOf, interrupting}
-use Rattle.regs.specs.Settle.{settle}
-use Rattle.regs.specs.Sound.{selectSound}
-use Rattle.regs.specs.Power.{powerOn}
-use Rattle.commands.specs.Command.{acknowledge, act, command, commanded}
-use Rattle.window_read.specs.Read.{window1, wordAt, afterWord}
-use Rattle.window_write.specs.Write.{coversLow, coversHigh, write, write1, write2, writeWord, writeByte}
-use Rattle.steps.specs.Access.{access, effect, byteAt}
-use Rattle.steps.specs.Event as card
-use Rattle.talk.specs.Talk.{run, readWords, writeWords, wordsOf}
-use Rattle.opening.specs.Open.{openTalk}
-use Rattle.sending.specs.Send.{sendTalk}
-use Rattle.items.specs.Items.{reports, reportTalk, idleTalk, fetchTalk}
-use Rattle.items.specs.Areas.{inLook, inFrame}
-use Rattle.service.specs.Service.{lookTalk}
-use Rattle.driver.specs.Calls.{openCall, sendCall, serviceCall}
+use Rattle.transmit_rules.specs.Queue as queue
+use Rattle.transmit_rules.specs.Write.{put, completed}
+use Rattle.transmit_rules.specs.QueueSound.{allSized}
+use Rattle.transmit_rules.specs.Leave.{toldOf, others, oldestWanted}
+use Rattle.transmit_rules.specs.Outcome.{top, some, push, rest, succeeded, enable, due}
+use Rattle.transmit_rules.specs.Tx as tx
+use Rattle.port_rules.specs.Sound.{idSound}
+use Rattle.card_rules.specs.Room.{txSize, rxSize}
+use Rattle.card_rules.specs.Status.{statusOf, interrupting}
+use Rattle.card_rules.specs.Settle.{settle}
+use Rattle.card_rules.specs.Sound.{selectSound}
+use Rattle.card_rules.specs.Power.{powerOn}
+use Rattle.card_rules.specs.Command.{acknowledge, act, command, commanded}
+use Rattle.card_rules.specs.Read.{window1, wordAt, afterWord}
+use Rattle.card_rules.specs.Write.{coversLow, coversHigh, write, write1, write2, writeWord, writeByte}
+use Rattle.card_rules.specs.Access.{access, effect, byteAt}
+use Rattle.card_rules.specs.Event as card
+use Rattle.driver_rules.specs.Talk.{run, readWords, writeWords, wordsOf}
+use Rattle.driver_rules.specs.Open.{openTalk}
+use Rattle.driver_rules.specs.Send.{sendTalk}
+use Rattle.driver_rules.specs.Items.{reports, reportTalk, idleTalk, fetchTalk}
+use Rattle.driver_rules.specs.Areas.{inLook, inFrame}
+use Rattle.driver_rules.specs.Service.{lookTalk}
+use Rattle.driver_rules.specs.Calls.{openCall, sendCall, serviceCall}
 use Rattle.runs.specs.Run.{opens, sends, serves, next, said, after, sayings}
 use Rattle.no_trace.specs.Stretch.{heard, calls, isDamaged, newestDamaged, withFrames, withoutFrames, AllDamaged}
 use Rattle.no_trace.specs.Wrong.{pass, Wrong-services-hand-up-damage}

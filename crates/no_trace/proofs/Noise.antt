@@ -7,20 +7,20 @@ use lib.ListN.{length}
 use lib.Dec.{leb}
 use Rattle.refusal.specs.declared.Refusal.the-variants.{AreaShort}
 use Rattle.store.specs.Store.{atNewest}
-use Rattle.receive.specs.Frame.{coming, overran}
-use Rattle.receive.specs.Wire as wire
-use Rattle.receive.specs.Wire.{begins, marked, fits, fits8}
-use Rattle.regs.specs.Adapter.{Adapter}
-use Rattle.regs.specs.Room.{rxRoom}
-use Rattle.regs.specs.Update.{withRx}
-use Rattle.regs.specs.Settle.{settle}
-use Rattle.steps.specs.Event as card
-use Rattle.talk.specs.declared.Driver.{Driver}
-use Rattle.talk.specs.Talk.{done, Ran, run}
-use Rattle.items.specs.declared.Answer.the-variants.{Refused}
-use Rattle.items.specs.Items.{Serving, plain}
-use Rattle.service.specs.Service.{lookTalk}
-use Rattle.driver.specs.Calls.{serviceCall}
+use Rattle.receive_rules.specs.Frame.{coming, overran}
+use Rattle.receive_rules.specs.Wire as wire
+use Rattle.receive_rules.specs.Wire.{begins, marked, fits, fits8}
+use Rattle.card_rules.specs.Adapter.{Adapter}
+use Rattle.card_rules.specs.Room.{rxRoom}
+use Rattle.card_rules.specs.Update.{withRx}
+use Rattle.card_rules.specs.Settle.{settle}
+use Rattle.card_rules.specs.Event as card
+use Rattle.driver_rules.specs.declared.Driver.{Driver}
+use Rattle.driver_rules.specs.Talk.{done, Ran, run}
+use Rattle.driver_rules.specs.declared.Answer.the-variants.{Refused}
+use Rattle.driver_rules.specs.Items.{Serving, plain}
+use Rattle.driver_rules.specs.Service.{lookTalk}
+use Rattle.driver_rules.specs.Calls.{serviceCall}
 use Rattle.runs.specs.Run.{Bench, Areas, full, Start, Byte, End, Said, serves, serving, next, said, after, sayings}
 use Rattle.no_trace.specs.Stretch.{During, byte, call, heard, calls}
 use Rattle.no_trace.specs.NoTrace.{handedUp}

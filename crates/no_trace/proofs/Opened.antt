@@ -5,30 +5,30 @@ use mathlib.Core.List.{List, [], _∷_}
 use Prim.Native.Nat.{ℕ, zero, suc, _+_, _/_, _%_}
 use lib.ListN.{length}
 use lib.Dec.{ltb, eqb}
-use Rattle.laws.proofs.Tests.{of-cond, by-test, never}
-use Rattle.idport.specs.declared.IdState.{IdState}
+use Rattle.bits.proofs.Tests.{of-cond, by-test, never}
+use Rattle.port_rules.specs.declared.IdState.{IdState}
 use Rattle.store.specs.Store.{round4}
-use Rattle.transmit.specs.Tx.{ready}
-use Rattle.regs.specs.declared.Select.{Select}
-use Rattle.regs.specs.Adapter.{Adapter}
-use Rattle.regs.specs.Settle.{settle}
-use Rattle.commands.specs.Command.{acknowledge, act, command, commanded}
-use Rattle.window_read.specs.Read.{afterWord}
-use Rattle.window_write.specs.Write.{coversHigh, write, write1, write2, writeWord, writeByte}
-use Rattle.steps.specs.Access.{Access, ReadWord, ReadByte, WriteWord, WriteByte, Step, effect, ones, access}
-use Rattle.steps.specs.Event as card
-use Rattle.steps.proofs.Ends.{asleep, awake}
-use Rattle.card.specs.Calls.{onWire, offWire}
-use Rattle.talk.specs.declared.Driver.{Driver}
-use Rattle.talk.specs.Driver.{withError}
-use Rattle.talk.specs.Registers.{unfit, txComplete, rxComplete, bad}
-use Rattle.talk.specs.Talk.{Talk, done, ask, run, readWords, writeWords}
-use Rattle.opening.specs.Open.{openTalk}
-use Rattle.talk.specs.Packet.{outside, packetWords}
-use Rattle.sending.specs.Send.{Sending, sendTalk}
-use Rattle.items.specs.Items.{Serving, isError, seen, reports, reportTalk, idleTalk, fetchTalk, wordsIn}
-use Rattle.service.specs.Service.{lookTalk, receiveTalk, dropTalk}
-use Rattle.driver.specs.Calls.{openCall, sendCall, serviceCall}
+use Rattle.transmit_rules.specs.Tx.{ready}
+use Rattle.card_rules.specs.declared.Select.{Select}
+use Rattle.card_rules.specs.Adapter.{Adapter}
+use Rattle.card_rules.specs.Settle.{settle}
+use Rattle.card_rules.specs.Command.{acknowledge, act, command, commanded}
+use Rattle.card_rules.specs.Read.{afterWord}
+use Rattle.card_rules.specs.Write.{coversHigh, write, write1, write2, writeWord, writeByte}
+use Rattle.card_rules.specs.Access.{Access, ReadWord, ReadByte, WriteWord, WriteByte, Step, effect, ones, access}
+use Rattle.card_rules.specs.Event as card
+use Rattle.card_rules.proofs.StepEnds.{asleep, awake}
+use Rattle.card_rules.specs.Calls.{onWire, offWire}
+use Rattle.driver_rules.specs.declared.Driver.{Driver}
+use Rattle.driver_rules.specs.Driver.{withError}
+use Rattle.driver_rules.specs.Registers.{unfit, txComplete, rxComplete, bad}
+use Rattle.driver_rules.specs.Talk.{Talk, done, ask, run, readWords, writeWords}
+use Rattle.driver_rules.specs.Open.{openTalk}
+use Rattle.driver_rules.specs.Packet.{outside, packetWords}
+use Rattle.driver_rules.specs.Send.{Sending, sendTalk}
+use Rattle.driver_rules.specs.Items.{Serving, isError, seen, reports, reportTalk, idleTalk, fetchTalk, wordsIn}
+use Rattle.driver_rules.specs.Service.{lookTalk, receiveTalk, dropTalk}
+use Rattle.driver_rules.specs.Calls.{openCall, sendCall, serviceCall}
 use Rattle.runs.specs.Run.{Bench, full, Event, Start, Byte, End, Sent, Collided, Open, Send, Service, opens, sends, serves, wire, taken, next, after}
 use Rattle.no_trace.proofs.Status.{shown}
 

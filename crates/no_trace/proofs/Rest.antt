@@ -4,30 +4,30 @@ use mathlib.Core.Bool.{Bool, true, false, not, _&&_, _||_}
 use mathlib.Core.List.{List, [], _∷_}
 use Prim.Native.Nat.{ℕ, zero, suc, _+_, _/_, _%_}
 use lib.Dec.{ltb, eqb}
-use Rattle.laws.proofs.Tests.{of-cond, of-test, by-test, never}
+use Rattle.bits.proofs.Tests.{of-cond, of-test, by-test, never}
 use Rattle.refusal.specs.Number.{numberOf}
 use Rattle.refusal.specs.declared.Refusal.the-variants.{CardUnfit, NeverOpened, AreaShort}
-use Rattle.outcomes.specs.Outcome.{some}
-use Rattle.regs.specs.declared.Select.{Select}
-use Rattle.regs.specs.Adapter.{Adapter}
-use Rattle.regs.specs.Status.{flags, failure, statusOf}
-use Rattle.regs.specs.Settle.{settle}
-use Rattle.commands.specs.Command.{acknowledge, act, command, commanded}
-use Rattle.window_read.specs.Read.{wordAt, afterWord}
-use Rattle.window_write.specs.Write.{writeWord}
-use Rattle.steps.specs.Access.{Access, ReadWord, WriteWord, Step, effect, access}
-use Rattle.steps.proofs.Ends.{asleep, awake}
-use Rattle.talk.specs.declared.Driver.{Driver}
-use Rattle.talk.specs.Driver.{withError}
-use Rattle.talk.specs.Registers.{unfit, txComplete, rxComplete, bad}
-use Rattle.talk.specs.Talk.{Talk, done, ask, run, readWords}
-use Rattle.items.specs.declared.Answer.{Answer}
-use Rattle.items.specs.declared.Answer.the-variants as answer
-use Rattle.items.specs.declared.Answer.the-variants.{Idle, Refused}
-use Rattle.items.specs.Items.{Serving, plain, short, isError, seen, reports, reportTalk, idleTalk, fetchTalk, wordsIn}
-use Rattle.service.specs.Service.{lookTalk, receiveTalk, dropTalk}
-use Rattle.driver.specs.Calls.{serviceCall}
-use Rattle.driver.specs.Paper.{Paper, servicePaper}
+use Rattle.transmit_rules.specs.Outcome.{some}
+use Rattle.card_rules.specs.declared.Select.{Select}
+use Rattle.card_rules.specs.Adapter.{Adapter}
+use Rattle.card_rules.specs.Status.{flags, failure, statusOf}
+use Rattle.card_rules.specs.Settle.{settle}
+use Rattle.card_rules.specs.Command.{acknowledge, act, command, commanded}
+use Rattle.card_rules.specs.Read.{wordAt, afterWord}
+use Rattle.card_rules.specs.Write.{writeWord}
+use Rattle.card_rules.specs.Access.{Access, ReadWord, WriteWord, Step, effect, access}
+use Rattle.card_rules.proofs.StepEnds.{asleep, awake}
+use Rattle.driver_rules.specs.declared.Driver.{Driver}
+use Rattle.driver_rules.specs.Driver.{withError}
+use Rattle.driver_rules.specs.Registers.{unfit, txComplete, rxComplete, bad}
+use Rattle.driver_rules.specs.Talk.{Talk, done, ask, run, readWords}
+use Rattle.driver_rules.specs.declared.Answer.{Answer}
+use Rattle.driver_rules.specs.declared.Answer.the-variants as answer
+use Rattle.driver_rules.specs.declared.Answer.the-variants.{Idle, Refused}
+use Rattle.driver_rules.specs.Items.{Serving, plain, short, isError, seen, reports, reportTalk, idleTalk, fetchTalk, wordsIn}
+use Rattle.driver_rules.specs.Service.{lookTalk, receiveTalk, dropTalk}
+use Rattle.driver_rules.specs.Calls.{serviceCall}
+use Rattle.driver_rules.specs.Paper.{Paper, servicePaper}
 use Rattle.runs.specs.Run.{Bench, Areas, full, Service, serves, next, said}
 use Rattle.no_trace.specs.Stretch.{isIdle, answersIdle}
 use Rattle.no_trace.proofs.Status.{shown, seen-failed, seen-completed}

@@ -7,28 +7,28 @@ use native.Mathlib.Omega.{arith}
 use borrow.Author.Tests.{eq-eqb}
 use lib.ListN.{length}
 use lib.Dec.{leb}
-use Rattle.idport.specs.declared.IdState.{IdState}
-use Rattle.receive.specs.Frame.{State, coming, damaged, Frame, Rx, isComing}
-use Rattle.receive.specs.Early.{earlyFlag, toldFlag}
-use Rattle.receive.specs.Reading as reading
-use Rattle.receive.specs.Reading.{rxStatus, marks, unread, complete, withoutOldest}
-use Rattle.queue.specs.Queue as queue
-use Rattle.outcomes.specs.Outcome.{some, due}
-use Rattle.regs.specs.declared.Flags.{Flags}
-use Rattle.regs.specs.Adapter.{Adapter}
-use Rattle.regs.specs.Room.{txRoom}
-use Rattle.regs.specs.Status.{statusWord, interrupting}
-use Rattle.regs.specs.Settle.{settle}
-use Rattle.commands.specs.Command.{acknowledge, act, command, commanded}
-use Rattle.window_read.specs.Read.{window1, wordAt, afterWord}
-use Rattle.window_write.specs.Write.{writeWord}
-use Rattle.steps.specs.Access.{ReadWord, WriteWord, step, effect, access}
-use Rattle.talk.specs.declared.Driver.{Driver}
-use Rattle.talk.specs.Registers.{unfit, txComplete, rxComplete, bad}
-use Rattle.talk.specs.Talk.{Ran, run, extended}
-use Rattle.items.specs.declared.Answer.the-variants.{Idle}
-use Rattle.items.specs.Items.{Serving, plain, short, idleTalk}
-use Rattle.service.specs.Service.{lookTalk}
+use Rattle.port_rules.specs.declared.IdState.{IdState}
+use Rattle.receive_rules.specs.Frame.{State, coming, damaged, Frame, Rx, isComing}
+use Rattle.receive_rules.specs.Early.{earlyFlag, toldFlag}
+use Rattle.receive_rules.specs.Reading as reading
+use Rattle.receive_rules.specs.Reading.{rxStatus, marks, unread, complete, withoutOldest}
+use Rattle.transmit_rules.specs.Queue as queue
+use Rattle.transmit_rules.specs.Outcome.{some, due}
+use Rattle.card_rules.specs.declared.Flags.{Flags}
+use Rattle.card_rules.specs.Adapter.{Adapter}
+use Rattle.card_rules.specs.Room.{txRoom}
+use Rattle.card_rules.specs.Status.{statusWord, interrupting}
+use Rattle.card_rules.specs.Settle.{settle}
+use Rattle.card_rules.specs.Command.{acknowledge, act, command, commanded}
+use Rattle.card_rules.specs.Read.{window1, wordAt, afterWord}
+use Rattle.card_rules.specs.Write.{writeWord}
+use Rattle.card_rules.specs.Access.{ReadWord, WriteWord, step, effect, access}
+use Rattle.driver_rules.specs.declared.Driver.{Driver}
+use Rattle.driver_rules.specs.Registers.{unfit, txComplete, rxComplete, bad}
+use Rattle.driver_rules.specs.Talk.{Ran, run, extended}
+use Rattle.driver_rules.specs.declared.Answer.the-variants.{Idle}
+use Rattle.driver_rules.specs.Items.{Serving, plain, short, idleTalk}
+use Rattle.driver_rules.specs.Service.{lookTalk}
 use Rattle.no_trace.proofs.Status.{shown, seen-failed, seen-completed, seen-received}
 
 -- ---- the shapes

@@ -1,11 +1,11 @@
 -- What the driver sees in the Status word of a card that open has set: window 1, every bit shown. Assumes nothing.
 use mathlib.Core.Path.{_≡_}
 use Prim.Native.Nat.{ℕ}
-use Rattle.regs.specs.declared.Select.{Select}
-use Rattle.regs.specs.declared.Flags.{Flags}
-use Rattle.regs.specs.Status.{statusOf}
-use Rattle.talk.specs.Registers.{unfit, txComplete, rxComplete}
-use Rattle.talk.proofs.Status.{unfit-status, status-completed, status-received}
+use Rattle.card_rules.specs.declared.Select.{Select}
+use Rattle.card_rules.specs.declared.Flags.{Flags}
+use Rattle.card_rules.specs.Status.{statusOf}
+use Rattle.driver_rules.specs.Registers.{unfit, txComplete, rxComplete}
+use Rattle.driver_rules.proofs.Status.{unfit-status, status-completed, status-received}
 
 -- as open leaves it, with any filter
 abbrev pub shown : ℕ → Select

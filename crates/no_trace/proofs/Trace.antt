@@ -4,19 +4,19 @@ use mathlib.Core.Bool.{Bool, true, false, cond, _||_}
 use mathlib.Core.List.{List, [], _∷_, _++_, append-nil}
 use Prim.Native.Nat.{ℕ, _≤_}
 use native.Mathlib.Omega.{arith}
-use Rattle.laws.proofs.Tests.{never, neither}
-use Rattle.receive.specs.Reading.{readable}
-use Rattle.receive.specs.Early.{earlyFlag, toldFlag}
-use Rattle.receive.proofs.Facts.{sound-told}
-use Rattle.regs.specs.Adapter.{Adapter}
-use Rattle.regs.specs.Room.{rxRoom}
-use Rattle.regs.specs.Settle.{settle}
-use Rattle.regs.specs.Sound.{sound}
-use Rattle.regs.proofs.Sides.{rx-of, settle-stays}
-use Rattle.queue.specs.Leave.{toldOf}
-use Rattle.transmit.specs.Tx.{ready as transmits}
-use Rattle.card.specs.Calls.{onWire, offWire}
-use Rattle.talk.specs.declared.Driver.{Driver}
+use Rattle.bits.proofs.Tests.{never, neither}
+use Rattle.receive_rules.specs.Reading.{readable}
+use Rattle.receive_rules.specs.Early.{earlyFlag, toldFlag}
+use Rattle.receive_rules.proofs.Facts.{sound-told}
+use Rattle.card_rules.specs.Adapter.{Adapter}
+use Rattle.card_rules.specs.Room.{rxRoom}
+use Rattle.card_rules.specs.Settle.{settle}
+use Rattle.card_rules.specs.Sound.{sound}
+use Rattle.card_rules.proofs.Sides.{rx-of, settle-stays}
+use Rattle.transmit_rules.specs.Leave.{toldOf}
+use Rattle.transmit_rules.specs.Tx.{ready as transmits}
+use Rattle.card_rules.specs.Calls.{onWire, offWire}
+use Rattle.driver_rules.specs.declared.Driver.{Driver}
 use Rattle.runs.specs.Run.{Bench, soundBench, full, Event, Start, Byte, End, Sent, Collided, Open, Send, Service, Said, told, refused, wire, refusing, next, said, after, sayings, since}
 use Rattle.runs.proofs.Kept.{adapter-of, next-sound, after-sound, since-sound}
 use Rattle.runs.proofs.Append.{after-append, sayings-append}

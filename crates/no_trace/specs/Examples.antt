@@ -4,11 +4,11 @@ use mathlib.Core.Bool.{true, false}
 use mathlib.Core.List.{List, [], _∷_, _++_, map}
 use Prim.Native.Nat.{ℕ}
 use lib.ListN.{replicate}
-use Rattle.idport.specs.Card.{activated}
-use Rattle.regs.specs.Update.{withId}
-use Rattle.regs.specs.Power.{powerOn}
-use Rattle.talk.specs.Driver.{neverOpened}
-use Rattle.driver.specs.Paper.{Paper, ticket, report, idle, short}
+use Rattle.port_rules.specs.Card.{activated}
+use Rattle.card_rules.specs.Update.{withId}
+use Rattle.card_rules.specs.Power.{powerOn}
+use Rattle.driver_rules.specs.Driver.{neverOpened}
+use Rattle.driver_rules.specs.Paper.{Paper, ticket, report, idle, short}
 use Rattle.runs.specs.Run.{Bench, soundBench, Areas, Open, Send, Sent, Service, Said, refused, told, answered, served, next, sayings}
 use Rattle.no_trace.specs.Stretch.{During, byte, call, Stretch, Part, event, stretch, withFrames, withoutFrames, AllDamaged}
 

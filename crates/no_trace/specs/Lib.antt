@@ -1,5 +1,5 @@
 -- What the promise of demand 3 cites.
-pub mod Stretch
-pub mod NoTrace
 pub mod Examples
+pub mod NoTrace
+pub mod Stretch
 pub mod Wrong

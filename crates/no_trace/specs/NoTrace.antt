@@ -3,7 +3,7 @@ use mathlib.Core.Path.{_≡_}
 use mathlib.Core.Bool.{true, false}
 use mathlib.Core.List.{List, [], _∷_, _++_}
 use Prim.Native.Nat.{ℕ}
-use Rattle.driver.specs.Paper.{idle}
+use Rattle.driver_rules.specs.Paper.{idle}
 use Rattle.runs.specs.Run.{Bench, soundBench, Areas, Open, Earlier, Said, refused, told, answered, served, next, said, after, sayings, since}
 use Rattle.no_trace.specs.Stretch.{calls, whole-frame, closing, quiet, Part, event, stretch, AllDamaged, withFrames, withoutFrames}
 

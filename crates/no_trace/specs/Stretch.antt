@@ -5,10 +5,10 @@ use mathlib.Core.List.{List, [], _∷_, _++_}
 use Prim.Native.Nat.{ℕ, _≤_}
 use lib.ListN.{length}
 use lib.Dec.{eqb}
-use Rattle.receive.specs.Frame.{State, coming, whole, damaged, Frame}
-use Rattle.receive.specs.Wire.{endOf}
-use Rattle.regs.specs.Adapter.{Adapter}
-use Rattle.driver.specs.Paper.{Paper, opened, ticket, report, statusAlone, frame, idle, short, refused}
+use Rattle.receive_rules.specs.Frame.{State, coming, whole, damaged, Frame}
+use Rattle.receive_rules.specs.Wire.{endOf}
+use Rattle.card_rules.specs.Adapter.{Adapter}
+use Rattle.driver_rules.specs.Paper.{Paper, opened, ticket, report, statusAlone, frame, idle, short, refused}
 use Rattle.runs.specs.Run as run
 use Rattle.runs.specs.Run.{Bench, Areas, full, Event, Start, Byte, End, Service, Said, told, answered, served, wire, next, said, after}
 

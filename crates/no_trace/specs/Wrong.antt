@@ -6,11 +6,11 @@ use Prim.Native.Nat.{ℕ, _%_}
 use lib.ListN.{replicate}
 use lib.Dec.{ltb}
 use Rattle.bits.specs.Bits.{has}
-use Rattle.talk.specs.declared.Driver.{Driver}
-use Rattle.talk.specs.Registers.{statusPort, rxStatus, rxDiscard, rxComplete}
-use Rattle.talk.specs.Talk.{Talk, run, readWord, order}
-use Rattle.items.specs.Items.{Serving, idleTalk, fetchTalk}
-use Rattle.talk.specs.Registers as registers
+use Rattle.driver_rules.specs.declared.Driver.{Driver}
+use Rattle.driver_rules.specs.Registers.{statusPort, rxStatus, rxDiscard, rxComplete}
+use Rattle.driver_rules.specs.Talk.{Talk, run, readWord, order}
+use Rattle.driver_rules.specs.Items.{Serving, idleTalk, fetchTalk}
+use Rattle.driver_rules.specs.Registers as registers
 use Rattle.runs.specs.Run.{Bench, after}
 use Rattle.no_trace.specs.Stretch.{begun, whole-frame}
 use Rattle.no_trace.specs.Examples.{opened, zeros, bad}

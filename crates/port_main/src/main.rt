@@ -1,11 +1,11 @@
 // Three cards on ID port 110h are found, and the second is activated at base number 5. A tag of 8 is refused.
-use idport::IdState;
-use idport_code::fresh;
+use idport::fresh;
 use libc::STDOUT_FILENO;
+use port_rules::Activation;
+use port_rules::Bus;
+use port_rules::Found;
+use port_rules::IdState;
 use refusal::Refusal;
-use search::Activation;
-use search::Bus;
-use search::Found;
 
 // A card after power-on, with this station address in its EEPROM.
 fn card(a: u16, b: u16, c: u16) -> IdState {
@@ -67,7 +67,7 @@ fn main() {
     cards[0] = card(0x0020, 0xAF01, 0x0203);
     cards[1] = card(0x0020, 0xAF00, 0xFFFF);
     cards[2] = card(0x0000, 0, 1);
-    let searched = search_code::find_cards(
+    let searched = port::find_cards(
         Bus {
             cards: cards,
             count: 3,
@@ -79,10 +79,10 @@ fn main() {
     let bus = searched.bus;
     tell_found(found);
     tell_addresses(addresses);
-    let activated = search_code::activate_card(bus, 0x110, 2, 5);
+    let activated = port::activate_card(bus, 0x110, 2, 5);
     let answer = activated.answer;
     tell_activation(answer);
-    let again = search_code::activate_card(bus, 0x110, 8, 5);
+    let again = port::activate_card(bus, 0x110, 8, 5);
     let refused = again.answer;
     tell_activation(refused);
 }

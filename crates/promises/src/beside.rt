@@ -6,7 +6,7 @@ ghost use Rattle.sends_carried.specs.Carried.{A-send-answers-by-the-table, A-pa
 ghost use Rattle.sends_carried.specs.Rooms.{Bench-rows-of-TX-Free};
 ghost use Rattle.frames_carried.specs.Carried.{Stores-are-such, A-good-frame-arrives, One-good-frame-is-stored, One-good-frame-is-handed-up};
 ghost use Rattle.fits.specs.Free.{The-memory-is-left-free};
-ghost use Rattle.unfit.specs.Unfit.{Unfit-comes-at-once};
+ghost use Rattle.driver_rules.specs.Unfit.{Unfit-comes-at-once};
 ghost use Rattle.driver_examples.specs.Send.{Send-examples};
 ghost use Rattle.driver_examples.specs.Service.{Service-examples, A-frame-of-1514-bytes, What-a-good-frame-costs};
 

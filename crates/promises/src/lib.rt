@@ -8,7 +8,7 @@ ghost use Rattle.fits.specs.Fits.{Nothing-else-fits};
 ghost use Rattle.runs.specs.Sound.{Every-step-keeps-soundness};
 ghost use Rattle.run_calls.specs.Takes.{The-calls-take-the-steps};
 
-pub mod beside; // beside.rt: what stands beside the promises
+mod beside; // beside.rt: what stands beside the promises
 
 // Demand 3: a damaged frame leaves no trace. No byte of it is handed up, and no later answer differs.
 pub fn damaged_frames_leave_no_trace()

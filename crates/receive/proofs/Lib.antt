@@ -1,11 +1,3 @@
--- Laws of the receive side that hold whatever the code.
-pub mod Laws
-pub mod Facts
-pub mod Oldest
-pub mod Order
-pub mod Keeps
-pub mod Settled
-pub mod Steps
-pub mod Taking
-pub mod Whole
-pub mod Examples
+-- The receive side, as functions.
+pub mod Paths
+pub mod Word

@@ -1,22 +1,19 @@
-// The receive side of the card: its registers, the frames stored, RX Early, and the test of its soundness.
-// Here the structs and definitions; the functions are the crate `receive_code`.
+// The receive side, as functions.
 
-// `early`: RX Early stands; `told`: it was set for the oldest frame; `read`: the bytes read of the oldest frame.
-// `wire`: 0 no frame on the wire, 1 the frame on the wire is ignored to its end, 2 it is stored.
-#[repr(C)]
-pub struct Receiver {
-    pub on: bool,
-    pub failed: bool,
-    pub early: bool,
-    pub told: bool,
-    pub threshold: u16,
-    pub read: u16,
-    pub wire: u8,
-}
+pub mod reading; // reading.rt: what the host reads of the receive side, and the commands that drop frames: RX Status, RX Complete, RX Free, the data read, RX Discard, RX Reset
+pub mod sound; // sound.rt: the receive side of the card: its registers, the frames stored, RX Early, and the test of its soundness
+pub mod wire; // wire.rt: the wire: a frame's start with its first 8 bytes, its single bytes, and its end
 
-// The registers, and how many frames are stored.
-#[repr(C)]
-pub struct Receive {
-    pub receiver: Receiver,
-    pub frames: usize,
-}
+pub use reading::deafen;
+pub use reading::discard;
+pub use reading::read_data;
+pub use reading::rx_complete;
+pub use reading::rx_free;
+pub use reading::rx_status;
+pub use sound::early_settled;
+pub use sound::rx_sound;
+pub use sound::settle_early;
+pub use wire::passes_filter;
+pub use wire::wire_byte;
+pub use wire::wire_end;
+pub use wire::wire_start;

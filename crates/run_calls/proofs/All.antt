@@ -1,8 +1,8 @@
 -- Each call takes its event's step, and so do any calls one after the other. Assumes nothing.
 use mathlib.Core.Path.{_≡_, refl, ap, _∙_}
 use mathlib.Core.List.{List, [], _∷_, _++_}
-use Rattle.talk.specs.Driver.{neverOpened}
-use Rattle.driver.specs.Calls.{soundState}
+use Rattle.driver_rules.specs.Driver.{neverOpened}
+use Rattle.driver_rules.specs.Calls.{soundState}
 use Rattle.runs.specs.Run.{Event, after, sayings, Earlier, since, before, Said}
 use Rattle.run_calls.specs.Takes.{State, Good, Called, Calls, CalledBefore, CallsBefore, Takes, TakesBefore, The-calls-take-the-steps}
 use Rattle.run_calls.specs.Takes as takes

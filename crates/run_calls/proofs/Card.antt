@@ -5,26 +5,26 @@ use mathlib.Core.List.{List, [], _∷_}
 use Prim.Native.Nat.{ℕ, suc, _<_}
 use lib.ListN.{length, take, drop}
 use lib.Seq.{take-at}
-use Rattle.laws.proofs.Tests.{never, both}
-use Rattle.idport.specs.declared.IdState.{IdState}
-use Rattle.idport.specs.Card.{idWrite, idAfterRead}
-use Rattle.idport.specs.Sound.{idSound}
-use Rattle.idport.proofs.Keep.{every-step-keeps-soundness}
-use Rattle.queue.specs.Leave.{toldOf}
-use Rattle.transmit.specs.Tx.{ready}
-use Rattle.regs.specs.declared.Card.{Card}
-use Rattle.regs.specs.Adapter.{Adapter}
-use Rattle.regs.specs.Sound.{selectSound}
-use Rattle.regs.specs.View.{view, soundCard}
-use Rattle.regs.proofs.Sides.{registers-of}
-use Rattle.steps.specs.Access.{ReadWord, ReadByte, WriteWord, WriteByte, access}
-use Rattle.steps.specs.Event as event
-use Rattle.card.specs.declared.AfterRead.{AfterRead}
-use Rattle.card.specs.declared.AfterCall.{AfterCall}
-use Rattle.card.specs.declared.AfterSuccess.{AfterSuccess}
-use Rattle.card.specs.Calls as card
-use Rattle.card.specs.Calls.{Reply, done, value, judged, replying, Does, Call, Area, readReply, doneReply, toldReply, isWord, isByte, onWire, offWire}
-use Rattle.card.specs.Contracts as contract
+use Rattle.bits.proofs.Tests.{never, both}
+use Rattle.port_rules.specs.declared.IdState.{IdState}
+use Rattle.port_rules.specs.Card.{idWrite, idAfterRead}
+use Rattle.port_rules.specs.Sound.{idSound}
+use Rattle.port_rules.proofs.Keep.{every-step-keeps-soundness}
+use Rattle.transmit_rules.specs.Leave.{toldOf}
+use Rattle.transmit_rules.specs.Tx.{ready}
+use Rattle.card_rules.specs.declared.Card.{Card}
+use Rattle.card_rules.specs.Adapter.{Adapter}
+use Rattle.card_rules.specs.Sound.{selectSound}
+use Rattle.card_rules.specs.View.{view, soundCard}
+use Rattle.card_rules.proofs.Sides.{registers-of}
+use Rattle.card_rules.specs.Access.{ReadWord, ReadByte, WriteWord, WriteByte, access}
+use Rattle.card_rules.specs.Event as event
+use Rattle.card_rules.specs.declared.AfterRead.{AfterRead}
+use Rattle.card_rules.specs.declared.AfterCall.{AfterCall}
+use Rattle.card_rules.specs.declared.AfterSuccess.{AfterSuccess}
+use Rattle.card_rules.specs.Calls as card
+use Rattle.card_rules.specs.Calls.{Reply, done, value, judged, replying, Does, Call, Area, readReply, doneReply, toldReply, isWord, isByte, onWire, offWire}
+use Rattle.card_rules.specs.Contracts as contract
 use Rattle.runs.specs.Run as run
 use Rattle.runs.specs.Run.{Bench, Earlier, Host, IdWrite, IdRead, Said, next, said, before, permitted}
 use Rattle.run_calls.specs.Takes.{State, seen, Good, left, saysDone, saysTold}

@@ -5,40 +5,40 @@ use mathlib.Core.List.{List, [], _∷_}
 use Prim.Native.Nat.{ℕ, _+_}
 use lib.Dec.{ltb}
 use lib.ListN.{length}
-use Rattle.laws.proofs.Tests.{by-test, of-cond, of-test, never, join}
+use Rattle.bits.proofs.Tests.{by-test, of-cond, of-test, never, join}
 use Rattle.store.specs.Store.{round4}
-use Rattle.regs.specs.declared.Card.{Card}
-use Rattle.regs.specs.Adapter.{Adapter}
-use Rattle.regs.specs.Sound.{sound}
-use Rattle.regs.specs.Settle.{settle}
-use Rattle.regs.specs.View.{view}
-use Rattle.regs.proofs.Sides.{settle-stays}
-use Rattle.window_read.specs.Read.{afterWord}
-use Rattle.steps.specs.Access.{Access, ReadWord, Step, effect, access}
-use Rattle.steps.proofs.Ends.{asleep, awake}
-use Rattle.talk.specs.declared.Driver.{Driver}
-use Rattle.talk.specs.Registers.{unfit}
-use Rattle.talk.specs.Talk.{Talk, Ran, done, ask, run, writeWords}
-use Rattle.talk.specs.Driver.{driverSound}
-use Rattle.talk.proofs.Runs.{writes-law}
-use Rattle.items.specs.Areas.{inLook, inFrame}
-use Rattle.items.specs.Items.{Serving}
-use Rattle.serving.specs.declared.Serviced.{Serviced}
-use Rattle.service.specs.Service.{lookTalk}
-use Rattle.opening.specs.declared.Opened.{Opened}
-use Rattle.opening.specs.Open as opens
-use Rattle.opening.specs.Open.{Opening, openTalk}
-use Rattle.opening.specs.Opens as inner-open
-use Rattle.sending.specs.declared.Sent.{Sent}
-use Rattle.sending.specs.Send as sends
-use Rattle.talk.specs.Packet.{outside, packetWords}
-use Rattle.sending.specs.Send.{Sending, ticketed, sendTalk}
-use Rattle.sending.specs.Sends as inner-send
-use Rattle.driver.specs.Paper.{openPaper, sendPaper, servicePaper}
-use Rattle.driver.specs.Calls.{large, openCall, sendCall, serviceCall, ServiceCall}
-use Rattle.driver.specs.HandUp.{handed}
-use Rattle.driver.proofs.HandUp.{handed-as}
-use Rattle.driver.proofs.Keeps.{send-keeps, service-keeps}
+use Rattle.card_rules.specs.declared.Card.{Card}
+use Rattle.card_rules.specs.Adapter.{Adapter}
+use Rattle.card_rules.specs.Sound.{sound}
+use Rattle.card_rules.specs.Settle.{settle}
+use Rattle.card_rules.specs.View.{view}
+use Rattle.card_rules.proofs.Sides.{settle-stays}
+use Rattle.card_rules.specs.Read.{afterWord}
+use Rattle.card_rules.specs.Access.{Access, ReadWord, Step, effect, access}
+use Rattle.card_rules.proofs.StepEnds.{asleep, awake}
+use Rattle.driver_rules.specs.declared.Driver.{Driver}
+use Rattle.driver_rules.specs.Registers.{unfit}
+use Rattle.driver_rules.specs.Talk.{Talk, Ran, done, ask, run, writeWords}
+use Rattle.driver_rules.specs.Driver.{driverSound}
+use Rattle.driver_rules.proofs.Runs.{writes-law}
+use Rattle.driver_rules.specs.Areas.{inLook, inFrame}
+use Rattle.driver_rules.specs.Items.{Serving}
+use Rattle.driver_rules.specs.declared.Serviced.{Serviced}
+use Rattle.driver_rules.specs.Service.{lookTalk}
+use Rattle.driver_rules.specs.declared.Opened.{Opened}
+use Rattle.driver_rules.specs.Open as opens
+use Rattle.driver_rules.specs.Open.{Opening, openTalk}
+use Rattle.driver_rules.specs.Opens as inner-open
+use Rattle.driver_rules.specs.declared.Sent.{Sent}
+use Rattle.driver_rules.specs.Send as sends
+use Rattle.driver_rules.specs.Packet.{outside, packetWords}
+use Rattle.driver_rules.specs.Send.{Sending, ticketed, sendTalk}
+use Rattle.driver_rules.specs.Sends as inner-send
+use Rattle.driver_rules.specs.Paper.{openPaper, sendPaper, servicePaper}
+use Rattle.driver_rules.specs.Calls.{large, openCall, sendCall, serviceCall, ServiceCall}
+use Rattle.driver_rules.specs.HandUp.{handed}
+use Rattle.driver_rules.proofs.HandUp.{handed-as}
+use Rattle.driver_rules.proofs.Keeps.{send-keeps, service-keeps}
 use Rattle.runs.specs.Run as runs
 use Rattle.runs.specs.Run.{Areas, full, next, said}
 use Rattle.fits.proofs.Service.{Ways, of-look}

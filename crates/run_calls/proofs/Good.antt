@@ -4,12 +4,12 @@ use mathlib.Core.Bool.{true}
 use mathlib.Core.List.{List, []}
 use Prim.Native.Nat.{ℕ}
 use lib.ListN.{length}
-use Rattle.laws.proofs.Tests.{both, join}
-use Rattle.regs.specs.declared.Card.{Card}
-use Rattle.regs.specs.View.{view, Sound, soundCard}
-use Rattle.regs.proofs.Checked.{card-told, card-shown}
-use Rattle.talk.specs.declared.Driver.{Driver}
-use Rattle.talk.specs.Driver.{driverSound}
+use Rattle.bits.proofs.Tests.{both, join}
+use Rattle.card_rules.specs.declared.Card.{Card}
+use Rattle.card_rules.specs.View.{view, Sound, soundCard}
+use Rattle.card_rules.proofs.Checked.{card-told, card-shown}
+use Rattle.driver_rules.specs.declared.Driver.{Driver}
+use Rattle.driver_rules.specs.Driver.{driverSound}
 use Rattle.runs.specs.Run.{Event, Earlier, Said, next, said, before}
 use Rattle.run_calls.specs.Takes.{State, seen, Good, left}
 

@@ -1,5 +1,5 @@
 -- Why the calls take the steps.
-pub mod Good
+pub mod All
 pub mod Card
 pub mod Driver
-pub mod All
+pub mod Good

@@ -4,27 +4,27 @@ use mathlib.Core.Bool.{Bool, true}
 use mathlib.Core.List.{List, [], _∷_, _++_}
 use Prim.Native.Nat.{ℕ, _<_}
 use lib.ListN.{length, take}
-use Rattle.idport.specs.Card.{idWrite, idAfterRead}
-use Rattle.regs.specs.declared.Card.{Card}
-use Rattle.regs.specs.Power.{powerOn}
-use Rattle.regs.specs.View.{view}
-use Rattle.steps.specs.Access.{ReadWord, ReadByte, WriteWord, WriteByte}
-use Rattle.card.specs.declared.AfterRead.{AfterRead}
-use Rattle.card.specs.declared.AfterCall.{AfterCall}
-use Rattle.card.specs.declared.AfterSuccess.{AfterSuccess}
-use Rattle.card.specs.Calls as card
-use Rattle.card.specs.Calls.{Reply, doneReply, toldReply}
-use Rattle.card.specs.Contracts as contract
-use Rattle.talk.specs.declared.Driver.{Driver}
-use Rattle.talk.specs.Driver.{neverOpened}
-use Rattle.items.specs.declared.Answer.{Answer}
-use Rattle.items.specs.declared.Answer.the-variants as serving
-use Rattle.opening.specs.declared.Opened.{Opened}
-use Rattle.sending.specs.declared.Sent.{Sent}
-use Rattle.serving.specs.declared.Serviced.{Serviced}
-use Rattle.driver.specs.Paper.{openPaper, sendPaper, servicePaper}
-use Rattle.driver.specs.Calls.{soundState, Opens, Sends, Services}
-use Rattle.driver.specs.HandUp.{handed}
+use Rattle.port_rules.specs.Card.{idWrite, idAfterRead}
+use Rattle.card_rules.specs.declared.Card.{Card}
+use Rattle.card_rules.specs.Power.{powerOn}
+use Rattle.card_rules.specs.View.{view}
+use Rattle.card_rules.specs.Access.{ReadWord, ReadByte, WriteWord, WriteByte}
+use Rattle.card_rules.specs.declared.AfterRead.{AfterRead}
+use Rattle.card_rules.specs.declared.AfterCall.{AfterCall}
+use Rattle.card_rules.specs.declared.AfterSuccess.{AfterSuccess}
+use Rattle.card_rules.specs.Calls as card
+use Rattle.card_rules.specs.Calls.{Reply, doneReply, toldReply}
+use Rattle.card_rules.specs.Contracts as contract
+use Rattle.driver_rules.specs.declared.Driver.{Driver}
+use Rattle.driver_rules.specs.Driver.{neverOpened}
+use Rattle.driver_rules.specs.declared.Answer.{Answer}
+use Rattle.driver_rules.specs.declared.Answer.the-variants as serving
+use Rattle.driver_rules.specs.declared.Opened.{Opened}
+use Rattle.driver_rules.specs.declared.Sent.{Sent}
+use Rattle.driver_rules.specs.declared.Serviced.{Serviced}
+use Rattle.driver_rules.specs.Paper.{openPaper, sendPaper, servicePaper}
+use Rattle.driver_rules.specs.Calls.{soundState, Opens, Sends, Services}
+use Rattle.driver_rules.specs.HandUp.{handed}
 use Rattle.runs.specs.Run as run
 use Rattle.runs.specs.Run.{Bench, Areas, Event, after, sayings, Earlier, Host, IdWrite, IdRead, Later, since, Said}
 

@@ -4,25 +4,25 @@ use mathlib.Core.Path.{_≡_, refl}
 use mathlib.Core.Bool.{true}
 use mathlib.Core.List.{[], _∷_}
 use lib.ListN.{replicate}
-use Rattle.idport.specs.Sound.{idSound}
-use Rattle.receive.specs.Frame.{isComing, room}
-use Rattle.receive.specs.Update.{withOn, withWire}
-use Rattle.receive.specs.Wire as wire
-use Rattle.receive.specs.Reading.{complete, readable}
-use Rattle.receive.specs.Early.{earlyFlag, toldFlag}
-use Rattle.receive.specs.Sound.{inOrder, earlySettled}
-use Rattle.queue.specs.Queue as queue
-use Rattle.queue.specs.Sound.{allSized}
-use Rattle.outcomes.specs.Outcome.{some, due}
-use Rattle.transmit.specs.Tx as tx
-use Rattle.regs.specs.Update.{withRx}
-use Rattle.regs.specs.Room.{rxSize, txSize}
-use Rattle.regs.specs.Status.{interrupting}
-use Rattle.regs.specs.Settle.{settle}
-use Rattle.regs.specs.Power.{powerOn}
-use Rattle.regs.specs.Sound.{selectSound}
-use Rattle.steps.specs.Event as card
-use Rattle.talk.specs.Driver.{neverOpened}
+use Rattle.port_rules.specs.Sound.{idSound}
+use Rattle.receive_rules.specs.Frame.{isComing, room}
+use Rattle.receive_rules.specs.Update.{withOn, withWire}
+use Rattle.receive_rules.specs.Wire as wire
+use Rattle.receive_rules.specs.Reading.{complete, readable}
+use Rattle.receive_rules.specs.Early.{earlyFlag, toldFlag}
+use Rattle.receive_rules.specs.Sound.{inOrder, earlySettled}
+use Rattle.transmit_rules.specs.Queue as queue
+use Rattle.transmit_rules.specs.QueueSound.{allSized}
+use Rattle.transmit_rules.specs.Outcome.{some, due}
+use Rattle.transmit_rules.specs.Tx as tx
+use Rattle.card_rules.specs.Update.{withRx}
+use Rattle.card_rules.specs.Room.{rxSize, txSize}
+use Rattle.card_rules.specs.Status.{interrupting}
+use Rattle.card_rules.specs.Settle.{settle}
+use Rattle.card_rules.specs.Power.{powerOn}
+use Rattle.card_rules.specs.Sound.{selectSound}
+use Rattle.card_rules.specs.Event as card
+use Rattle.driver_rules.specs.Driver.{neverOpened}
 use Rattle.runs.specs.Run.{Bench, soundBench, Start, refused, next, said}
 
 -- the first 8 bytes of a frame have come, at a card that is not active any more

@@ -6,32 +6,32 @@ use Prim.Native.Nat.{ℕ}
 use native.Mathlib.Omega.{arith}
 use borrow.Author.Tests.{eqb-true}
 use lib.Dec.{ltb, eqb}
-use Rattle.laws.proofs.Tests.{both, join, of-cond, of-test}
-use Rattle.idport.specs.declared.IdState.{IdState}
-use Rattle.idport.specs.Card.{idWrite, idAfterRead}
-use Rattle.idport.specs.Sound.{idSound}
-use Rattle.idport.proofs.Keep.{every-step-keeps-soundness}
-use Rattle.transmit.specs.Tx.{ready}
-use Rattle.regs.specs.Adapter.{Adapter}
-use Rattle.regs.specs.Power.{powerOn}
-use Rattle.receive.specs.Early.{earlyFlag, toldFlag}
-use Rattle.outcomes.specs.Outcome.{due}
-use Rattle.regs.specs.Status.{interrupting}
-use Rattle.regs.specs.Settle.{settle}
-use Rattle.regs.specs.Sound.{sound}
-use Rattle.regs.proofs.Sides.{kept-of, registers-of, settle-sound}
-use Rattle.commands.proofs.Keeps.{Keeping, power-on-kept}
-use Rattle.window_read.specs.Read.{afterWord}
-use Rattle.steps.specs.Access.{Access, ReadWord, ReadByte, WriteWord, WriteByte, Step, effect, access}
-use Rattle.steps.specs.Event as card
-use Rattle.steps.proofs.Keeps as keeps
-use Rattle.card.specs.Calls.{onWire, offWire}
-use Rattle.talk.specs.Driver.{driverSound, neverOpened}
-use Rattle.talk.specs.Talk.{Talk, done, ask, run}
-use Rattle.opening.specs.Open.{openTalk}
-use Rattle.items.specs.Items.{Serving}
-use Rattle.driver.specs.Calls.{openCall, sendCall, serviceCall}
-use Rattle.driver.proofs.Keeps.{send-keeps, service-keeps}
+use Rattle.bits.proofs.Tests.{both, join, of-cond, of-test}
+use Rattle.port_rules.specs.declared.IdState.{IdState}
+use Rattle.port_rules.specs.Card.{idWrite, idAfterRead}
+use Rattle.port_rules.specs.Sound.{idSound}
+use Rattle.port_rules.proofs.Keep.{every-step-keeps-soundness}
+use Rattle.transmit_rules.specs.Tx.{ready}
+use Rattle.card_rules.specs.Adapter.{Adapter}
+use Rattle.card_rules.specs.Power.{powerOn}
+use Rattle.receive_rules.specs.Early.{earlyFlag, toldFlag}
+use Rattle.transmit_rules.specs.Outcome.{due}
+use Rattle.card_rules.specs.Status.{interrupting}
+use Rattle.card_rules.specs.Settle.{settle}
+use Rattle.card_rules.specs.Sound.{sound}
+use Rattle.card_rules.proofs.Sides.{kept-of, registers-of, settle-sound}
+use Rattle.card_rules.proofs.CommandKeeps.{Keeping, power-on-kept}
+use Rattle.card_rules.specs.Read.{afterWord}
+use Rattle.card_rules.specs.Access.{Access, ReadWord, ReadByte, WriteWord, WriteByte, Step, effect, access}
+use Rattle.card_rules.specs.Event as card
+use Rattle.card_rules.proofs.StepKeeps as keeps
+use Rattle.card_rules.specs.Calls.{onWire, offWire}
+use Rattle.driver_rules.specs.Driver.{driverSound, neverOpened}
+use Rattle.driver_rules.specs.Talk.{Talk, done, ask, run}
+use Rattle.driver_rules.specs.Open.{openTalk}
+use Rattle.driver_rules.specs.Items.{Serving}
+use Rattle.driver_rules.specs.Calls.{openCall, sendCall, serviceCall}
+use Rattle.driver_rules.proofs.Keeps.{send-keeps, service-keeps}
 use Rattle.runs.specs.Run.{Bench, soundBench, withAdapter, Areas, full, Event, Start, Byte, End, Sent, Collided, Open, Send, Service, Earlier, Host, IdWrite, IdRead, Later, opens, sends, serves, wire, taken, next, after, permitted, before, since}
 use Rattle.runs.specs.Sound.{fresh, Every-step-keeps-soundness}
 

@@ -1,4 +1,4 @@
 -- Why every step keeps soundness, with an example, and laws of runs one after the other.
-pub mod Kept
 pub mod Append
 pub mod Examples
+pub mod Kept

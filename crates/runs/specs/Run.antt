@@ -5,23 +5,23 @@ use mathlib.Core.Bool.{Bool, true, cond, _&&_}
 use mathlib.Core.List.{List, [], _∷_, _++_}
 use Prim.Native.Nat.{ℕ, _<_}
 use lib.ListN.{length}
-use Rattle.idport.specs.Card.{idWrite, idAfterRead}
-use Rattle.queue.specs.Leave.{toldOf}
-use Rattle.transmit.specs.Tx.{ready}
-use Rattle.regs.specs.Adapter.{Adapter}
-use Rattle.regs.specs.Sound.{sound}
-use Rattle.steps.specs.Access.{Access, ReadWord, ReadByte, WriteWord, WriteByte, access}
-use Rattle.steps.specs.Event as card
-use Rattle.card.specs.Calls.{isWord, isByte, onWire, offWire}
-use Rattle.talk.specs.declared.Driver.{Driver}
-use Rattle.talk.specs.Driver.{driverSound}
-use Rattle.talk.specs.Talk.{Ran, run}
-use Rattle.opening.specs.Open.{Opening}
-use Rattle.sending.specs.Send.{Sending}
-use Rattle.items.specs.Items.{Serving}
-use Rattle.items.specs.Areas.{inLook, inFrame}
-use Rattle.driver.specs.Calls.{openCall, sendCall, serviceCall, large}
-use Rattle.driver.specs.Paper.{Paper, openPaper, sendPaper, servicePaper}
+use Rattle.port_rules.specs.Card.{idWrite, idAfterRead}
+use Rattle.transmit_rules.specs.Leave.{toldOf}
+use Rattle.transmit_rules.specs.Tx.{ready}
+use Rattle.card_rules.specs.Adapter.{Adapter}
+use Rattle.card_rules.specs.Sound.{sound}
+use Rattle.card_rules.specs.Access.{Access, ReadWord, ReadByte, WriteWord, WriteByte, access}
+use Rattle.card_rules.specs.Event as card
+use Rattle.card_rules.specs.Calls.{isWord, isByte, onWire, offWire}
+use Rattle.driver_rules.specs.declared.Driver.{Driver}
+use Rattle.driver_rules.specs.Driver.{driverSound}
+use Rattle.driver_rules.specs.Talk.{Ran, run}
+use Rattle.driver_rules.specs.Open.{Opening}
+use Rattle.driver_rules.specs.Send.{Sending}
+use Rattle.driver_rules.specs.Items.{Serving}
+use Rattle.driver_rules.specs.Areas.{inLook, inFrame}
+use Rattle.driver_rules.specs.Calls.{openCall, sendCall, serviceCall, large}
+use Rattle.driver_rules.specs.Paper.{Paper, openPaper, sendPaper, servicePaper}
 
 -- the card and its driver
 pub record Bench : Type 0 where

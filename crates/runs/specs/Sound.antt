@@ -3,8 +3,8 @@ use mathlib.Core.Path.{_≡_}
 use mathlib.Core.Bool.{true}
 use mathlib.Core.List.{List}
 use Prim.Native.Nat.{ℕ}
-use Rattle.regs.specs.Power.{powerOn}
-use Rattle.talk.specs.Driver.{neverOpened}
+use Rattle.card_rules.specs.Power.{powerOn}
+use Rattle.driver_rules.specs.Driver.{neverOpened}
 use Rattle.runs.specs.Run.{Bench, soundBench, Earlier, since}
 
 -- a power-on card with any EEPROM words, and a driver never opened

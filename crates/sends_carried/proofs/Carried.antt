@@ -4,21 +4,21 @@ use mathlib.Core.Bool.{Bool, true, false, cond, not, _&&_}
 use mathlib.Core.List.{List, [], _∷_, _++_, map, append-assoc, append-nil, map-append}
 use Prim.Native.Nat.{ℕ}
 use lib.ListN.{length}
-use Rattle.laws.proofs.Tests.{both, of-cond, by-test, never}
-use Rattle.idport.specs.declared.IdState.{IdState}
-use Rattle.idport.specs.Card.{idWrite, idAfterRead}
+use Rattle.bits.proofs.Tests.{both, of-cond, by-test, never}
+use Rattle.port_rules.specs.declared.IdState.{IdState}
+use Rattle.port_rules.specs.Card.{idWrite, idAfterRead}
 use Rattle.store.specs.Store.{Frame}
-use Rattle.queue.specs.Queue.{Queue}
-use Rattle.queue.specs.Leave as leave
-use Rattle.queue.specs.Leave.{toldOf, others}
-use Rattle.transmit.specs.Tx as tx
-use Rattle.transmit.specs.Tx.{ready}
-use Rattle.regs.specs.Adapter.{Adapter}
-use Rattle.regs.specs.Power.{powerOn}
-use Rattle.regs.specs.Settle.{settle}
-use Rattle.steps.specs.Event as card
-use Rattle.card.specs.Calls as calls
-use Rattle.sending.specs.Send as sending
+use Rattle.transmit_rules.specs.Queue.{Queue}
+use Rattle.transmit_rules.specs.Leave as leave
+use Rattle.transmit_rules.specs.Leave.{toldOf, others}
+use Rattle.transmit_rules.specs.Tx as tx
+use Rattle.transmit_rules.specs.Tx.{ready}
+use Rattle.card_rules.specs.Adapter.{Adapter}
+use Rattle.card_rules.specs.Power.{powerOn}
+use Rattle.card_rules.specs.Settle.{settle}
+use Rattle.card_rules.specs.Event as card
+use Rattle.card_rules.specs.Calls as calls
+use Rattle.driver_rules.specs.Send as sending
 use Rattle.runs.specs.Run.{Bench, Areas, full, Event, Start, Byte, End, Sent, Collided, Open, Send, Service, Said, refused, told, answered, served, withAdapter, wire, refusing, opens, serves, next, said, after, sayings, before}
 use Rattle.sends_carried.specs.Packets.{areBytes, stored, padded, packets, Clear, answerTo, accepts, accepted, sendsBytes, Gone, oldest, leaves, gone, allSucceed, onWire, successes}
 use Rattle.sends_carried.specs.Carried.{A-success-tells-the-bytes, Sends-are-carried, Clear-states}

@@ -4,30 +4,30 @@ use mathlib.Core.Bool.{true, false}
 use mathlib.Core.List.{List, [], _∷_, _++_}
 use Prim.Native.Nat.{ℕ}
 use lib.ListN.{replicate}
-use Rattle.idport.specs.Card.{activated}
-use Rattle.receive.specs.Reading.{complete}
-use Rattle.receive.specs.Early.{earlyFlag, toldFlag}
+use Rattle.port_rules.specs.Card.{activated}
+use Rattle.receive_rules.specs.Reading.{complete}
+use Rattle.receive_rules.specs.Early.{earlyFlag, toldFlag}
 use Rattle.store.specs.Store as store
-use Rattle.queue.specs.Queue as queue
-use Rattle.queue.specs.Write.{put, completed}
-use Rattle.queue.specs.Leave.{others, oldestWanted, toldOf}
-use Rattle.outcomes.specs.Outcome.{some, push, succeeded, collided, enable, due}
-use Rattle.transmit.specs.Tx as tx
-use Rattle.regs.specs.Update.{withId}
-use Rattle.regs.specs.Room.{txSize, rxSize}
-use Rattle.regs.specs.Status.{statusOf, interrupting}
-use Rattle.regs.specs.Settle.{settle}
-use Rattle.regs.specs.Power.{powerOn}
-use Rattle.commands.specs.Command.{act, command, commanded}
-use Rattle.window_read.specs.Read.{window1, wordAt, afterWord}
-use Rattle.window_write.specs.Write.{coversLow, coversHigh, write, write1, write2, writeWord, writeByte}
-use Rattle.steps.specs.Access.{WriteWord, access, effect}
-use Rattle.steps.specs.Event.{success, collisions}
-use Rattle.talk.specs.Driver.{neverOpened}
-use Rattle.talk.specs.Talk.{run, writeWords, wordsOf}
-use Rattle.opening.specs.Open.{openTalk}
-use Rattle.sending.specs.Send.{sendTalk}
-use Rattle.driver.specs.Calls.{openCall, sendCall}
+use Rattle.transmit_rules.specs.Queue as queue
+use Rattle.transmit_rules.specs.Write.{put, completed}
+use Rattle.transmit_rules.specs.Leave.{others, oldestWanted, toldOf}
+use Rattle.transmit_rules.specs.Outcome.{some, push, succeeded, collided, enable, due}
+use Rattle.transmit_rules.specs.Tx as tx
+use Rattle.card_rules.specs.Update.{withId}
+use Rattle.card_rules.specs.Room.{txSize, rxSize}
+use Rattle.card_rules.specs.Status.{statusOf, interrupting}
+use Rattle.card_rules.specs.Settle.{settle}
+use Rattle.card_rules.specs.Power.{powerOn}
+use Rattle.card_rules.specs.Command.{act, command, commanded}
+use Rattle.card_rules.specs.Read.{window1, wordAt, afterWord}
+use Rattle.card_rules.specs.Write.{coversLow, coversHigh, write, write1, write2, writeWord, writeByte}
+use Rattle.card_rules.specs.Access.{WriteWord, access, effect}
+use Rattle.card_rules.specs.Event.{success, collisions}
+use Rattle.driver_rules.specs.Driver.{neverOpened}
+use Rattle.driver_rules.specs.Talk.{run, writeWords, wordsOf}
+use Rattle.driver_rules.specs.Open.{openTalk}
+use Rattle.driver_rules.specs.Send.{sendTalk}
+use Rattle.driver_rules.specs.Calls.{openCall, sendCall}
 use Rattle.runs.specs.Run.{Bench, Event, Sent, Collided, Open, Send, opens, sends, next, said, sayings}
 use Rattle.sends_carried.specs.Packets.{stored, padded, packets, areBytes, ticketed, oldest, leaves, accepts, gone, accepted, onWire, sendsBytes}
 use Rattle.sends_carried.specs.Carried.{Carried}

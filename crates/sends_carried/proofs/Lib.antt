@@ -1,7 +1,7 @@
 -- Why what is sent is carried.
-pub mod Quiet
-pub mod Words
-pub mod Stored
 pub mod Carried
-pub mod Rooms
 mod Examples
+pub mod Quiet
+pub mod Rooms
+pub mod Stored
+pub mod Words

@@ -4,22 +4,22 @@ use mathlib.Core.Bool.{Bool, true, false, not, _&&_, _||_}
 use mathlib.Core.List.{List, [], _∷_}
 use Prim.Native.Nat.{ℕ, zero, suc, _+_, _/_, _%_}
 use lib.Dec.{ltb, eqb}
-use Rattle.laws.proofs.Tests.{of-cond, by-test}
-use Rattle.regs.specs.Adapter.{Adapter}
-use Rattle.regs.specs.Update.{withId}
-use Rattle.regs.specs.Settle.{settle}
-use Rattle.commands.specs.Command.{acknowledge, act, command, commanded}
-use Rattle.window_read.specs.Read.{afterWord}
-use Rattle.window_write.specs.Write.{coversLow, coversHigh, write, write0, write1, write2, write3, writeWord, writeByte}
-use Rattle.steps.specs.Access.{Access, ReadWord, ReadByte, WriteWord, WriteByte, Step, effect, access}
-use Rattle.steps.proofs.Ends.{asleep}
-use Rattle.talk.specs.declared.Driver.{Driver}
-use Rattle.talk.specs.Registers.{unfit, txComplete, rxComplete, bad}
-use Rattle.talk.specs.Talk.{Talk, done, ask, run, readWords}
-use Rattle.opening.specs.Open.{openTalk}
-use Rattle.items.specs.Items.{isError, reportTalk, idleTalk, fetchTalk, wordsIn}
-use Rattle.service.specs.Service.{lookTalk, receiveTalk, dropTalk}
-use Rattle.driver.specs.Calls.{openCall, serviceCall}
+use Rattle.bits.proofs.Tests.{of-cond, by-test}
+use Rattle.card_rules.specs.Adapter.{Adapter}
+use Rattle.card_rules.specs.Update.{withId}
+use Rattle.card_rules.specs.Settle.{settle}
+use Rattle.card_rules.specs.Command.{acknowledge, act, command, commanded}
+use Rattle.card_rules.specs.Read.{afterWord}
+use Rattle.card_rules.specs.Write.{coversLow, coversHigh, write, write0, write1, write2, write3, writeWord, writeByte}
+use Rattle.card_rules.specs.Access.{Access, ReadWord, ReadByte, WriteWord, WriteByte, Step, effect, access}
+use Rattle.card_rules.proofs.StepEnds.{asleep}
+use Rattle.driver_rules.specs.declared.Driver.{Driver}
+use Rattle.driver_rules.specs.Registers.{unfit, txComplete, rxComplete, bad}
+use Rattle.driver_rules.specs.Talk.{Talk, done, ask, run, readWords}
+use Rattle.driver_rules.specs.Open.{openTalk}
+use Rattle.driver_rules.specs.Items.{isError, reportTalk, idleTalk, fetchTalk, wordsIn}
+use Rattle.driver_rules.specs.Service.{lookTalk, receiveTalk, dropTalk}
+use Rattle.driver_rules.specs.Calls.{openCall, serviceCall}
 
 -- b has the FIFO of a
 abbrev pub Same : Adapter → Adapter → Type 0

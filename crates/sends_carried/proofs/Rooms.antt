@@ -9,23 +9,23 @@ use lib.Dec.{ltb, lit≤}
 use lib.ListN.{length, getD}
 use Rattle.refusal.specs.declared.Refusal.the-variants.{NoRoom}
 use Rattle.store.specs.Store.{round4}
-use Rattle.queue.specs.Queue as queue
-use Rattle.regs.specs.Room as room
-use Rattle.regs.specs.Room.{txSize}
-use Rattle.regs.specs.Settle.{settle}
-use Rattle.regs.specs.Power.{powerOn}
-use Rattle.commands.specs.Command.{act, command, commanded}
-use Rattle.window_write.specs.Write.{coversLow, coversHigh, write, write2, writeWord, writeByte}
-use Rattle.steps.specs.Access.{access, effect}
-use Rattle.talk.specs.declared.Driver.{Driver}
-use Rattle.talk.specs.Talk.{run}
-use Rattle.opening.specs.Open.{openTalk}
-use Rattle.sending.specs.declared.SendAnswer.{SendAnswer}
-use Rattle.sending.specs.declared.SendAnswer.the-variants.{Ticket, Refused}
-use Rattle.talk.specs.Packet.{outside}
-use Rattle.sending.specs.Send.{refusing}
-use Rattle.driver.specs.Calls.{openCall}
-use Rattle.driver.specs.Paper.{sendPaper}
+use Rattle.transmit_rules.specs.Queue as queue
+use Rattle.card_rules.specs.Room as room
+use Rattle.card_rules.specs.Room.{txSize}
+use Rattle.card_rules.specs.Settle.{settle}
+use Rattle.card_rules.specs.Power.{powerOn}
+use Rattle.card_rules.specs.Command.{act, command, commanded}
+use Rattle.card_rules.specs.Write.{coversLow, coversHigh, write, write2, writeWord, writeByte}
+use Rattle.card_rules.specs.Access.{access, effect}
+use Rattle.driver_rules.specs.declared.Driver.{Driver}
+use Rattle.driver_rules.specs.Talk.{run}
+use Rattle.driver_rules.specs.Open.{openTalk}
+use Rattle.driver_rules.specs.declared.SendAnswer.{SendAnswer}
+use Rattle.driver_rules.specs.declared.SendAnswer.the-variants.{Ticket, Refused}
+use Rattle.driver_rules.specs.Packet.{outside}
+use Rattle.driver_rules.specs.Send.{refusing}
+use Rattle.driver_rules.specs.Calls.{openCall}
+use Rattle.driver_rules.specs.Paper.{sendPaper}
 use Rattle.runs.specs.Run.{Bench, Send, answered, opens, next, said, after}
 use Rattle.sends_carried.specs.Packets.{Clear, fit, answerTo}
 use Rattle.sends_carried.specs.Rooms.{active, ready, txFree, Packet, Rows, Bench-rows-of-TX-Free}

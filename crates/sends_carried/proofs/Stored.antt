@@ -9,37 +9,37 @@ use lib.Dec.{ltb, eqb}
 use lib.ListN.{length}
 use Rattle.refusal.specs.declared.Refusal.{Refusal}
 use Rattle.refusal.specs.declared.Refusal.the-variants.{NeverOpened, LengthOutside, SixteenUnreported, CardUnfit, NoRoom}
-use Rattle.laws.proofs.Tests.{both, neither, by-test, never}
+use Rattle.bits.proofs.Tests.{both, neither, by-test, never}
 use Rattle.bits.specs.Bits.{has}
 use Rattle.store.specs.Store.{round4}
-use Rattle.queue.specs.Queue.{Queue, noPart, free, room}
-use Rattle.queue.specs.Whole.{puts}
-use Rattle.queue.proofs.Whole.{free-falls}
-use Rattle.outcomes.specs.Outcome.{fours}
-use Rattle.regs.specs.Adapter.{Adapter}
-use Rattle.regs.specs.Room.{txSize, txRoom, txFree}
-use Rattle.regs.specs.Status.{failure, shows, flags}
-use Rattle.regs.specs.Settle.{settle}
-use Rattle.regs.specs.Sound.{sound}
-use Rattle.regs.proofs.Sides.{settle-stays}
-use Rattle.window_read.specs.Read.{window1, wordAt, afterWord}
-use Rattle.window_write.specs.Write.{writing, write, write1, writeWord}
-use Rattle.steps.specs.Access.{ReadWord, WriteWord, Step, step, effect, access}
-use Rattle.steps.proofs.Ends.{asleep, awake}
-use Rattle.talk.specs.declared.Driver.{Driver}
-use Rattle.talk.specs.Registers.{statusPort, unfit}
-use Rattle.talk.specs.Registers as registers
-use Rattle.talk.specs.Talk.{Talk, done, readWord, Ran, run, after, afterWrites, writeWords}
-use Rattle.talk.proofs.Runs.{writes-law}
-use Rattle.talk.specs.Driver.{driverSound, sending}
-use Rattle.sending.specs.declared.SendAnswer.{SendAnswer}
-use Rattle.sending.specs.declared.SendAnswer.the-variants.{Ticket, Refused}
-use Rattle.talk.specs.Packet.{outside, packetWords}
-use Rattle.sending.specs.Send.{Sending, refuses, ticketed, sendTalk, refusing}
-use Rattle.sending.proofs.Ways.{not-long}
-use Rattle.driver.specs.Calls.{sendCall}
-use Rattle.talk.proofs.Status.{unfit-status}
-use Rattle.unfit.proofs.Unfit.{not-false-true}
+use Rattle.transmit_rules.specs.Queue.{Queue, noPart, free, room}
+use Rattle.transmit_rules.specs.Whole.{puts}
+use Rattle.transmit_rules.proofs.Whole.{free-falls}
+use Rattle.transmit_rules.specs.Outcome.{fours}
+use Rattle.card_rules.specs.Adapter.{Adapter}
+use Rattle.card_rules.specs.Room.{txSize, txRoom, txFree}
+use Rattle.card_rules.specs.Status.{failure, shows, flags}
+use Rattle.card_rules.specs.Settle.{settle}
+use Rattle.card_rules.specs.Sound.{sound}
+use Rattle.card_rules.proofs.Sides.{settle-stays}
+use Rattle.card_rules.specs.Read.{window1, wordAt, afterWord}
+use Rattle.card_rules.specs.Write.{writing, write, write1, writeWord}
+use Rattle.card_rules.specs.Access.{ReadWord, WriteWord, Step, step, effect, access}
+use Rattle.card_rules.proofs.StepEnds.{asleep, awake}
+use Rattle.driver_rules.specs.declared.Driver.{Driver}
+use Rattle.driver_rules.specs.Registers.{statusPort, unfit}
+use Rattle.driver_rules.specs.Registers as registers
+use Rattle.driver_rules.specs.Talk.{Talk, done, readWord, Ran, run, after, afterWrites, writeWords}
+use Rattle.driver_rules.proofs.Runs.{writes-law}
+use Rattle.driver_rules.specs.Driver.{driverSound, sending}
+use Rattle.driver_rules.specs.declared.SendAnswer.{SendAnswer}
+use Rattle.driver_rules.specs.declared.SendAnswer.the-variants.{Ticket, Refused}
+use Rattle.driver_rules.specs.Packet.{outside, packetWords}
+use Rattle.driver_rules.specs.Send.{Sending, refuses, ticketed, sendTalk, refusing}
+use Rattle.driver_rules.proofs.SendWays.{not-long}
+use Rattle.driver_rules.specs.Calls.{sendCall}
+use Rattle.driver_rules.proofs.Status.{unfit-status}
+use Rattle.driver_rules.proofs.Unfit.{not-false-true}
 use Rattle.runs.specs.Run.{Bench, sends, next}
 use Rattle.sends_carried.specs.Packets.{areBytes, stored, Clear, fit, answerTo}
 use Rattle.sends_carried.specs.Carried.{A-send-answers-by-the-table, A-packet-is-stored-whole}

@@ -7,15 +7,15 @@ use native.Mathlib.Omega.{arith}
 use borrow.Author.Tests.{ltb-true, le-leb}
 use lib.Dec.{ltb}
 use lib.ListN.{length, take, drop}
-use Rattle.laws.proofs.Tests.{both}
+use Rattle.bits.proofs.Tests.{both}
 use Rattle.store.specs.Store.{begun, lenOf, round4}
-use Rattle.queue.specs.Queue.{Queue, noPart, room, free}
-use Rattle.queue.specs.Write.{sized, opened}
-use Rattle.queue.specs.Whole.{puts, bytesOf}
-use Rattle.queue.proofs.Put.{put-opens}
-use Rattle.queue.proofs.Whole.{written-whole}
-use Rattle.talk.specs.Talk.{wordsOf}
-use Rattle.talk.specs.Packet.{packetWords}
+use Rattle.transmit_rules.specs.Queue.{Queue, noPart, room, free}
+use Rattle.transmit_rules.specs.Write.{sized, opened}
+use Rattle.transmit_rules.specs.Whole.{puts, bytesOf}
+use Rattle.transmit_rules.proofs.Put.{put-opens}
+use Rattle.transmit_rules.proofs.Whole.{written-whole}
+use Rattle.driver_rules.specs.Talk.{wordsOf}
+use Rattle.driver_rules.specs.Packet.{packetWords}
 use Rattle.sends_carried.specs.Packets.{areBytes, stored}
 
 words-length : (m : ℕ) (p : List ℕ) → length (wordsOf m p) ≡ m

@@ -6,11 +6,11 @@ use mathlib.Core.List.{List, [], _∷_, _++_, map}
 use Prim.Native.Nat.{ℕ, _+_, _<_}
 use lib.ListN.{length}
 use Rattle.store.specs.Store.{Frame, round4}
-use Rattle.queue.specs.Leave as leave
-use Rattle.transmit.specs.Tx.{ready}
-use Rattle.regs.specs.Room.{txFree}
-use Rattle.talk.specs.Driver.{sending}
-use Rattle.sending.specs.Send.{refusing}
+use Rattle.transmit_rules.specs.Leave as leave
+use Rattle.transmit_rules.specs.Tx.{ready}
+use Rattle.card_rules.specs.Room.{txFree}
+use Rattle.driver_rules.specs.Driver.{sending}
+use Rattle.driver_rules.specs.Send.{refusing}
 use Rattle.runs.specs.Run.{Bench, soundBench, Event, Sent, Send, IdWrite, IdRead, told, sends, next, said, after, sayings, before}
 use Rattle.runs.specs.Sound.{fresh}
 use Rattle.sends_carried.specs.Packets.{areBytes, stored, padded, packets, Clear, fit, answerTo, accepted, sendsBytes, gone, allSucceed, onWire, successes}

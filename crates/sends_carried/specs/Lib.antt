@@ -1,4 +1,4 @@
 -- What the first half of demand 2 cites: packets that are sent, stored and gone; and what is promised of them.
-pub mod Packets
 pub mod Carried
+pub mod Packets
 pub mod Rooms

@@ -7,15 +7,15 @@ use lib.ListN.{length, replicate}
 use lib.Dec.{eqb, ltb}
 use Rattle.refusal.specs.declared.Refusal.the-variants.{NeverOpened, LengthOutside, SixteenUnreported, CardUnfit, NoRoom}
 use Rattle.store.specs.Store.{Frame, round4}
-use Rattle.queue.specs.Leave as leave
-use Rattle.transmit.specs.Tx.{ready}
-use Rattle.regs.specs.Adapter.{Adapter}
-use Rattle.regs.specs.Room.{txFree}
-use Rattle.regs.specs.Status.{failure, shows}
-use Rattle.sending.specs.declared.SendAnswer.{SendAnswer}
-use Rattle.sending.specs.declared.SendAnswer.the-variants.{Ticket, Refused}
-use Rattle.talk.specs.Packet.{outside}
-use Rattle.sending.specs.Send.{refusing}
+use Rattle.transmit_rules.specs.Leave as leave
+use Rattle.transmit_rules.specs.Tx.{ready}
+use Rattle.card_rules.specs.Adapter.{Adapter}
+use Rattle.card_rules.specs.Room.{txFree}
+use Rattle.card_rules.specs.Status.{failure, shows}
+use Rattle.driver_rules.specs.declared.SendAnswer.{SendAnswer}
+use Rattle.driver_rules.specs.declared.SendAnswer.the-variants.{Ticket, Refused}
+use Rattle.driver_rules.specs.Packet.{outside}
+use Rattle.driver_rules.specs.Send.{refusing}
 use Rattle.runs.specs.Run.{Bench, Event, Start, Byte, End, Sent, Collided, Open, Send, Service, Said, refused, told, answered, served, sends, next}
 
 -- ---- a packet

@@ -4,14 +4,14 @@ use mathlib.Core.Bool.{true}
 use mathlib.Core.List.{List, [], _∷_}
 use Prim.Native.Nat.{ℕ, _%_}
 use lib.ListN.{length, getD}
-use Rattle.idport.specs.Card.{activated}
-use Rattle.regs.specs.Adapter.{Adapter}
-use Rattle.regs.specs.Update.{withId}
-use Rattle.regs.specs.Power.{powerOn}
-use Rattle.regs.specs.Room as room
-use Rattle.regs.specs.Room.{txSize}
-use Rattle.talk.specs.Driver.{neverOpened}
-use Rattle.driver.specs.Paper.{ticket, refused}
+use Rattle.port_rules.specs.Card.{activated}
+use Rattle.card_rules.specs.Adapter.{Adapter}
+use Rattle.card_rules.specs.Update.{withId}
+use Rattle.card_rules.specs.Power.{powerOn}
+use Rattle.card_rules.specs.Room as room
+use Rattle.card_rules.specs.Room.{txSize}
+use Rattle.driver_rules.specs.Driver.{neverOpened}
+use Rattle.driver_rules.specs.Paper.{ticket, refused}
 use Rattle.runs.specs.Run.{Bench, Open, Send, answered, next, said, after}
 use Rattle.sends_carried.specs.Packets.{areBytes}
 

@@ -1,2 +1,151 @@
 // Look, receive, and look again, until an item is found, the budget is short, or so many turns were taken.
-// Here the definitions; the functions are the crate `service_code`.
+ghost use mathlib.Core.Path.{_≡_};
+ghost use Rattle.card_rules.specs.View.{view, Sound};
+ghost use Rattle.driver_rules.specs.Talk.{run};
+ghost use Rattle.driver_rules.specs.Meets.{Ready};
+ghost use Rattle.driver_rules.specs.Service.{lookTalk, receiveTalk};
+ghost use Rattle.driver_rules.specs.Serves.{Meets, Unmoved};
+use card_rules::Card;
+use driver_rules::Answer;
+use driver_rules::Driver;
+use driver_rules::Served;
+use refusal::Refusal;
+
+pub mod serving; // serving.rt: a whole service: look and receive, begun again where they paused, until an item is found or the budget is short
+
+pub use serving::serve;
+
+// Interrupt Latch, TX Available, RX Early and Interrupt Requested.
+const ACKNOWLEDGED: u16 = 0x69;
+
+// Status is read, and the first item that stands is done: TX Complete, else RX Complete, else idle.
+pub fn look(
+    ram: &mut [u8],
+    dir: &mut [u16],
+    c: Card,
+    d: Driver,
+    ahead: &mut [u8],
+    frame: &mut [u8],
+    left: usize,
+    turns: usize,
+) -> Served
+    requires { ⌜ Ready c (now ram) (now dir) (now ahead) (now frame) ⌝ }
+    ensures { λ r. ⌜ Meets (r .paused) left (run (lookTalk left d) (view c (now (ram .entry)) (now (dir .entry)))) r (view (r .card) (now (ram .exit)) (now (dir .exit))) (now (ahead .entry)) (now (frame .entry)) (now (ahead .exit)) (now (frame .exit)) × (Sound (r .card) (now (ram .exit)) (now (dir .exit)) × Unmoved (run (lookTalk left d) (view c (now (ram .entry)) (now (dir .entry)))) c (r .card) (now (ram .entry)) (now (dir .entry)) (now (ram .exit)) (now (dir .exit))) ⌝ }
+{
+    if left == 0 {
+        return Served {
+            driver: d,
+            card: c,
+            answer: Answer::Refused(Refusal::BudgetShort),
+            left: 0,
+            paused: false,
+        };
+    }
+    let got = steps::read_word(ram, dir, c, driver_rules::STATUS);
+    let same = got.card;
+    let status = got.value;
+    if items::is_unfit(status) {
+        return Served {
+            driver: d,
+            card: c,
+            answer: Answer::Refused(Refusal::CardUnfit),
+            left: left - 1,
+            paused: false,
+        };
+    }
+    if items::is_tx_complete(status) {
+        return items::report(ram, dir, same, d, left - 1);
+    }
+    if items::is_rx_complete(status) {
+        return receive(ram, dir, same, d, ahead, frame, left - 1, turns);
+    }
+    if left == 1 {
+        return Served {
+            driver: d,
+            card: same,
+            answer: Answer::Refused(Refusal::BudgetShort),
+            left: 0,
+            paused: false,
+        };
+    }
+    let end = steps::write_word(
+        ram,
+        dir,
+        same,
+        driver_rules::STATUS,
+        driver_rules::ACKNOWLEDGE + ACKNOWLEDGED,
+    );
+    Served {
+        driver: d,
+        card: end,
+        answer: Answer::Idle,
+        left: left - 2,
+        paused: false,
+    }
+}
+
+// The oldest frame is complete: a good one is fetched, any other discarded, and the pass looks again from the start.
+fn receive(
+    ram: &mut [u8],
+    dir: &mut [u16],
+    c: Card,
+    d: Driver,
+    ahead: &mut [u8],
+    frame: &mut [u8],
+    left: usize,
+    turns: usize,
+) -> Served
+    requires { ⌜ Ready c (now ram) (now dir) (now ahead) (now frame) ⌝ }
+    ensures { λ r. ⌜ Meets (r .paused) left (run (receiveTalk left d) (view c (now (ram .entry)) (now (dir .entry)))) r (view (r .card) (now (ram .exit)) (now (dir .exit))) (now (ahead .entry)) (now (frame .entry)) (now (ahead .exit)) (now (frame .exit)) × Sound (r .card) (now (ram .exit)) (now (dir .exit)) ⌝ }
+{
+    if left == 0 {
+        return Served {
+            driver: d,
+            card: c,
+            answer: Answer::Refused(Refusal::BudgetShort),
+            left: 0,
+            paused: false,
+        };
+    }
+    let got = steps::read_word(ram, dir, c, driver_rules::RX_STATUS);
+    let same = got.card;
+    let rx = got.value;
+    if items::is_bad(rx) {
+        if left == 1 {
+            return Served {
+                driver: d,
+                card: same,
+                answer: Answer::Refused(Refusal::BudgetShort),
+                left: 0,
+                paused: false,
+            };
+        }
+        let dropped = steps::write_word(
+            ram,
+            dir,
+            same,
+            driver_rules::STATUS,
+            driver_rules::RX_DISCARD,
+        );
+        if turns == 0 {
+            return Served {
+                driver: d,
+                card: dropped,
+                answer: Answer::Idle,
+                left: left - 2,
+                paused: true,
+            };
+        }
+        return look(ram, dir, dropped, d, ahead, frame, left - 2, turns - 1);
+    }
+    items::fetch(
+        ram,
+        dir,
+        same,
+        d,
+        ahead,
+        frame,
+        left - 1,
+        (rx % 2048) as usize,
+    )
+}

@@ -2,7 +2,7 @@
 -- Assumes nothing.
 use mathlib.Core.Path.{sym, _∙_}
 use native.Mathlib.Omega.{arith}
-use Rattle.fields.specs.Field.{fieldsOf}
+use Rattle.catalogue_rules.specs.Field.{fieldsOf}
 use Rattle.catalogue_add.proofs.Choice.{short, wrong-length, damaged, goes-on, was-parsed, card-missing, card-found, found-place}
 use borrow.Author.Needs.{needs}
 use Rattle.catalogue_add.proofs.add.Statement.{statement}

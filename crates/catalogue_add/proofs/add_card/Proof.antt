@@ -2,7 +2,7 @@
 -- Assumes nothing.
 use mathlib.Core.Path.{refl, sym, ap, _∙_}
 use native.Mathlib.Omega.{arith}
-use Rattle.catalogue_put.specs.Put.{putAt}
+use Rattle.catalogue_rules.specs.Put.{putAt}
 use Rattle.catalogue_add.proofs.New.{five-least, card-new, card-new-length}
 use Rattle.catalogue_add.proofs.Choice.{no-place, is-twice, unsound, sound, few-for-card, room-for-card, card-choice, was-sound}
 use borrow.Author.Needs.{needs}

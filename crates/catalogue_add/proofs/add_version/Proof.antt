@@ -5,11 +5,11 @@ use Prim.Native.Nat.{ℕ, _+_}
 use mathlib.Core.Path.{refl, sym, ap, _∙_}
 use native.Mathlib.Omega.{arith}
 use lib.ListN.{length}
-use Rattle.catalogue_file.specs.Turns.{addressOf}
-use Rattle.archive.specs.Archive.{addressIn}
-use Rattle.catalogue_file.specs.Reading.{fileOf}
-use Rattle.changes.specs.Edit.{versionFields, withVersion, latestNumber}
-use Rattle.catalogue_put.specs.Put.{putAt}
+use Rattle.catalogue_rules.specs.Turns.{addressOf}
+use Rattle.catalogue_rules.specs.Archive.{addressIn}
+use Rattle.catalogue_rules.specs.Reading.{fileOf}
+use Rattle.catalogue_rules.specs.Edit.{versionFields, withVersion, latestNumber}
+use Rattle.catalogue_rules.specs.Put.{putAt}
 use Rattle.catalogue_add.proofs.New.{versions-new, place-fits, version-new, version-new-length}
 use Rattle.catalogue_add.proofs.Choice.{no-place, is-twice, unsound, sound, few-for-version, number-fits, room-for-version, version-choice, was-sound}
 use borrow.Author.Needs.{needs}

@@ -1,8 +1,8 @@
 -- `catalogue_add::address_of` meets its contract: three words are six bytes.
 -- Assumes nothing.
 use native.Mathlib.Omega.{arith}
-use Rattle.eeprom.specs.Image.{wordAt}
-use Rattle.catalogue_file.specs.Turns.{addressOf}
+use Rattle.image_rules.specs.Image.{wordAt}
+use Rattle.catalogue_rules.specs.Turns.{addressOf}
 use borrow.Author.Needs.{needs}
 use Rattle.catalogue_add.proofs.address_of.Statement.{statement}
 use Rattle.catalogue_add.proofs.address_of.Tie as tie

@@ -1,6 +1,6 @@
 -- `catalogue_promises::a_drop_takes_the_oldest` meets its contract, which is the law of `Shown`.
 -- Assumes nothing.
-use Rattle.catalogue_after.proofs.Shown.{a-drop-takes-the-oldest}
+use Rattle.catalogue_kept.proofs.Shown.{a-drop-takes-the-oldest}
 use Rattle.catalogue_promises.proofs.a_drop_takes_the_oldest.Statement.{statement}
 use Rattle.catalogue_promises.proofs.a_drop_takes_the_oldest.Tie as tie
 

@@ -1,6 +1,6 @@
 -- `catalogue_promises::accepted_is_well_formed` meets its contract, which is the law of `Fit`.
 -- Assumes nothing.
-use Rattle.catalogue_laws.proofs.Fit.{accepted-is-well-formed}
+use Rattle.catalogue_rules.proofs.Fit.{accepted-is-well-formed}
 use Rattle.catalogue_promises.proofs.accepted_is_well_formed.Statement.{statement}
 use Rattle.catalogue_promises.proofs.accepted_is_well_formed.Tie as tie
 

@@ -1,6 +1,6 @@
 -- `catalogue_promises::places_show` meets its contract, which is the law of `Shows`.
 -- Assumes nothing.
-use Rattle.catalogue_lookup.proofs.Shows.{places-show}
+use Rattle.catalogue_rules.proofs.Shows.{places-show}
 use Rattle.catalogue_promises.proofs.places_show.Statement.{statement}
 use Rattle.catalogue_promises.proofs.places_show.Tie as tie
 

@@ -1,6 +1,6 @@
 -- `catalogue_promises::read_is_written` meets its contract, which is the law of `Round`.
 -- Assumes nothing.
-use Rattle.catalogue_laws.proofs.Round.{read-is-written}
+use Rattle.catalogue_rules.proofs.Round.{read-is-written}
 use Rattle.catalogue_promises.proofs.read_is_written.Statement.{statement}
 use Rattle.catalogue_promises.proofs.read_is_written.Tie as tie
 

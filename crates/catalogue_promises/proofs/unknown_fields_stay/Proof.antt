@@ -1,6 +1,6 @@
 -- `catalogue_promises::unknown_fields_stay` meets its contract, which is the law of `Kept`.
 -- Assumes nothing.
-use Rattle.changes.proofs.Kept.{unknown-fields-stay}
+use Rattle.catalogue_rules.proofs.Kept.{unknown-fields-stay}
 use Rattle.catalogue_promises.proofs.unknown_fields_stay.Statement.{statement}
 use Rattle.catalogue_promises.proofs.unknown_fields_stay.Tie as tie
 

@@ -1,6 +1,6 @@
 -- `catalogue_promises::written_is_read` meets its contract, which is the law of `Round`.
 -- Assumes nothing.
-use Rattle.catalogue_laws.proofs.Round.{written-is-read}
+use Rattle.catalogue_rules.proofs.Round.{written-is-read}
 use Rattle.catalogue_promises.proofs.written_is_read.Statement.{statement}
 use Rattle.catalogue_promises.proofs.written_is_read.Tie as tie
 

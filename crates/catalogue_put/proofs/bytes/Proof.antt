@@ -8,8 +8,8 @@ use mathlib.Core.Path.{_≡_, refl, sym, ap, _∙_}
 use mathlib.Core.List.{List}
 use lib.ListN.{length, getD, set}
 use lib.Seq.{paste, paste-zero, paste-suc, length-paste}
-use Rattle.catalogue_put.specs.Put.{putAt}
-use Rattle.catalogue_put.proofs.Chain.{put-pasted}
+use Rattle.catalogue_rules.specs.Put.{putAt}
+use Rattle.catalogue_rules.proofs.Chain.{put-pasted}
 use Rattle.catalogue_put.proofs.bytes.Statement.{statement}
 use Rattle.catalogue_put.proofs.bytes.Tie as tie
 use Rattle.catalogue_put.proofs.bytes.Reads as reads

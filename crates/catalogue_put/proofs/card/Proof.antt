@@ -1,10 +1,10 @@
 -- `catalogue_put::card` meets its contract: the address field, and behind it the version's two fields.
 -- Assumes nothing.
 use native.Mathlib.Omega.{arith}
-use Rattle.fields.specs.Field.{field, bytesOf, written}
-use Rattle.archive.specs.Archive.{addressIn}
-use Rattle.changes.specs.Edit.{versionFields}
-use Rattle.catalogue_put.proofs.Chain.{both-put, version-length}
+use Rattle.catalogue_rules.specs.Field.{field, bytesOf, written}
+use Rattle.catalogue_rules.specs.Archive.{addressIn}
+use Rattle.catalogue_rules.specs.Edit.{versionFields}
+use Rattle.catalogue_rules.proofs.Chain.{both-put, version-length}
 use borrow.Author.Needs.{needs}
 use Rattle.catalogue_put.proofs.card.Statement.{statement}
 use Rattle.catalogue_put.proofs.card.Tie as tie

@@ -1,6 +1,6 @@
 -- `catalogue_put::count` meets its contract: the five bytes are the field's.
 -- Assumes nothing.
-use Rattle.fields.specs.Field.{bytesOf}
+use Rattle.catalogue_rules.specs.Field.{bytesOf}
 use borrow.Author.Needs.{needs}
 use Rattle.catalogue_put.proofs.count.Statement.{statement}
 use Rattle.catalogue_put.proofs.count.Tie as tie

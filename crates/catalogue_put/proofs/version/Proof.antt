@@ -4,8 +4,8 @@ use Prim.Native.Nat.{_/_, _%_}
 use native.Mathlib.Omega.{arith}
 use mathlib.Core.Path.{ap, _∙_}
 use mathlib.Core.List.{[], _∷_}
-use Rattle.catalogue_put.specs.Put.{putAt}
-use Rattle.catalogue_put.proofs.Chain.{both-put, version-bytes}
+use Rattle.catalogue_rules.specs.Put.{putAt}
+use Rattle.catalogue_rules.proofs.Chain.{both-put, version-bytes}
 use borrow.Author.Needs.{needs}
 use Rattle.catalogue_put.proofs.version.Statement.{statement}
 use Rattle.catalogue_put.proofs.version.Tie as tie

@@ -48,39 +48,39 @@ use denote.Triple.Spec.{Meets, tripleOf}
 use denote.Triple.Table.{entered, cited}
 use denote.Triple.Walked.{says, Stays, stay-slice, stay-none, walkOf, goes-slice, goes-none, Walks, ends-at, walked, walk-meets}
 use denote.Exit.{yes}
-use Rattle.idport.specs.declared.IdState.{IdState}
-use Rattle.idport.proofs.IdState as T
-use Rattle.idport.proofs.IdState.Laws as T′
-use Rattle.lent_steps.specs.declared.seats.Taken.{Taken}
-use Rattle.search.specs.declared.AfterSearch.{AfterSearch}
+use Rattle.port_rules.specs.declared.IdState.{IdState}
+use Rattle.port_rules.proofs.IdState as T
+use Rattle.port_rules.proofs.IdState.Laws as T′
+use Rattle.lent_port.specs.declared.seats.Taken.{Taken}
+use Rattle.port_rules.specs.declared.AfterSearch.{AfterSearch}
 use Rattle.lent_port.specs.declared.Listed.{Listed}
-use Rattle.search.specs.Calls.{foundOf, findsCards}
-use Rattle.lent_steps.specs.Steps.{emptied, takenWith, foundIn, seatOf}
+use Rattle.port_rules.specs.Calls.{foundOf, findsCards}
+use Rattle.lent_port.specs.Steps.{emptied, takenWith, foundIn, seatOf}
 use Rattle.lent_port.specs.Lent.{lent, foundOver, listedOf}
 use Rattle.lent_port.proofs.Turns.{noCard as d, gone, gone-none, gone-length, gone-next}
 use Rattle.lent_port.proofs.Gathered.{Gathered, gathered-none, gathered-next, found-ends}
-use Rattle.lent_steps.proofs.seats.Taken as Wk
-use Rattle.lent_steps.proofs.seats.Taken.Laws as Wk′
-use Rattle.search.proofs.AfterSearch as Vr
-use Rattle.search.proofs.AfterSearch.Laws as Vr′
+use Rattle.lent_port.proofs.seats.Taken as Wk
+use Rattle.lent_port.proofs.seats.Taken.Laws as Wk′
+use Rattle.port_rules.proofs.AfterSearch as Vr
+use Rattle.port_rules.proofs.AfterSearch.Laws as Vr′
 use Rattle.lent_port.proofs.Listed as Rs
 use Rattle.lent_port.proofs.Listed.Laws as Rs′
-use Rattle.lent_steps.proofs.seats.empty as begin
-use Rattle.lent_steps.proofs.seats.empty.Symbol as begin-def
-use Rattle.lent_steps.proofs.seats.empty.Symbol.{name as #lent-steps·seats·empty}
-use Rattle.lent_steps.proofs.seats.empty.Met as begin-thm
-use Rattle.lent_steps.proofs.seats.take as take
-use Rattle.lent_steps.proofs.seats.take.Symbol as take-def
-use Rattle.lent_steps.proofs.seats.take.Symbol.{name as #lent-steps·seats·take}
-use Rattle.lent_steps.proofs.seats.take.Met as take-thm
-use Rattle.lent_steps.proofs.seats.found as perform
-use Rattle.lent_steps.proofs.seats.found.Symbol as perform-def
-use Rattle.lent_steps.proofs.seats.found.Symbol.{name as #lent-steps·seats·found}
-use Rattle.lent_steps.proofs.seats.found.Met as perform-thm
-use Rattle.lent_steps.proofs.seats.found_at as give
-use Rattle.lent_steps.proofs.seats.found_at.Symbol as give-def
-use Rattle.lent_steps.proofs.seats.found_at.Symbol.{name as #lent-steps·seats·found-at}
-use Rattle.lent_steps.proofs.seats.found_at.Met as give-thm
+use Rattle.lent_port.proofs.seats.empty as begin
+use Rattle.lent_port.proofs.seats.empty.Symbol as begin-def
+use Rattle.lent_port.proofs.seats.empty.Symbol.{name as #lent-steps·seats·empty}
+use Rattle.lent_port.proofs.seats.empty.Met as begin-thm
+use Rattle.lent_port.proofs.seats.take as take
+use Rattle.lent_port.proofs.seats.take.Symbol as take-def
+use Rattle.lent_port.proofs.seats.take.Symbol.{name as #lent-steps·seats·take}
+use Rattle.lent_port.proofs.seats.take.Met as take-thm
+use Rattle.lent_port.proofs.seats.found as perform
+use Rattle.lent_port.proofs.seats.found.Symbol as perform-def
+use Rattle.lent_port.proofs.seats.found.Symbol.{name as #lent-steps·seats·found}
+use Rattle.lent_port.proofs.seats.found.Met as perform-thm
+use Rattle.lent_port.proofs.seats.found_at as give
+use Rattle.lent_port.proofs.seats.found_at.Symbol as give-def
+use Rattle.lent_port.proofs.seats.found_at.Symbol.{name as #lent-steps·seats·found-at}
+use Rattle.lent_port.proofs.seats.found_at.Met as give-thm
 use Rattle.lent_port.proofs.answered as reply
 use Rattle.lent_port.proofs.answered.Symbol as reply-def
 use Rattle.lent_port.proofs.answered.Symbol.{name as #lent-port·answered}
@@ -433,9 +433,9 @@ find-spec 𝓤 H 𝓜 𝓖 𝓡 =
     entered 𝓤 H (tripleOf 𝓤 H (𝓖 .A) call.signature (call.spec 𝓤 H (𝓖 .A) (𝓜 .mem) (𝓡 .run)))
     (tables 𝓤 H 𝓜 𝓡 code.env .C) (tables 𝓤 H 𝓜 𝓡 code.env .Λ) #lent-port·find code.function (code.unfolded 𝓤 H 𝓜 𝓡)
     (meets 𝓤 H (𝓖 .A) (givenOf 𝓤 H 𝓜 𝓖) (𝓜 .mem) (𝓡 .run) (tablesOf 𝓤 H 𝓜 (tables 𝓤 H 𝓜 𝓡 code.env)) (record {
-      begin-known = cited 𝓤 H (Begin 𝓤 H (𝓖 .A) (𝓜 .mem) (𝓡 .run)) 𝓜 𝓡 code.env #lent-steps·seats·empty begin-def.routine code.calls-lent-steps·seats·empty (begin-thm.met 𝓤 H 𝓜 𝓖 𝓡);
-      take-known = cited 𝓤 H (Take 𝓤 H (𝓖 .A) (𝓜 .mem) (𝓡 .run)) 𝓜 𝓡 code.env #lent-steps·seats·take take-def.routine code.calls-lent-steps·seats·take (take-thm.met 𝓤 H 𝓜 𝓖 𝓡);
-      perform-known = cited 𝓤 H (Perform 𝓤 H (𝓖 .A) (𝓜 .mem) (𝓡 .run)) 𝓜 𝓡 code.env #lent-steps·seats·found perform-def.routine code.calls-lent-steps·seats·found (perform-thm.met 𝓤 H 𝓜 𝓖 𝓡);
-      give-known = cited 𝓤 H (Give 𝓤 H (𝓖 .A) (𝓜 .mem) (𝓡 .run)) 𝓜 𝓡 code.env #lent-steps·seats·found-at give-def.routine code.calls-lent-steps·seats·found-at (give-thm.met 𝓤 H 𝓜 𝓖 𝓡);
+      begin-known = cited 𝓤 H (Begin 𝓤 H (𝓖 .A) (𝓜 .mem) (𝓡 .run)) 𝓜 𝓡 code.env #lent-steps·seats·empty begin-def.routine code.calls-lent-port·seats·empty (begin-thm.met 𝓤 H 𝓜 𝓖 𝓡);
+      take-known = cited 𝓤 H (Take 𝓤 H (𝓖 .A) (𝓜 .mem) (𝓡 .run)) 𝓜 𝓡 code.env #lent-steps·seats·take take-def.routine code.calls-lent-port·seats·take (take-thm.met 𝓤 H 𝓜 𝓖 𝓡);
+      perform-known = cited 𝓤 H (Perform 𝓤 H (𝓖 .A) (𝓜 .mem) (𝓡 .run)) 𝓜 𝓡 code.env #lent-steps·seats·found perform-def.routine code.calls-lent-port·seats·found (perform-thm.met 𝓤 H 𝓜 𝓖 𝓡);
+      give-known = cited 𝓤 H (Give 𝓤 H (𝓖 .A) (𝓜 .mem) (𝓡 .run)) 𝓜 𝓡 code.env #lent-steps·seats·found-at give-def.routine code.calls-lent-port·seats·found-at (give-thm.met 𝓤 H 𝓜 𝓖 𝓡);
       reply-known = cited 𝓤 H (Reply 𝓤 H (𝓖 .A) (𝓜 .mem) (𝓡 .run)) 𝓜 𝓡 code.env #lent-port·answered reply-def.routine code.calls-lent-port·answered (reply-thm.met 𝓤 H 𝓜 𝓖 𝓡);
     }))

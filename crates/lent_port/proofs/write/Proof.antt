@@ -49,43 +49,43 @@ use denote.Triple.Spec.{Meets, tripleOf}
 use denote.Triple.Table.{entered, cited}
 use denote.Triple.Walked.{says, Stays, stay-slice, stay-none, walkOf, goes-slice, goes-none, Walks, ends-at, walked, walk-meets}
 use denote.Exit.{yes}
-use Rattle.idport.specs.declared.IdState.{IdState}
-use Rattle.idport.proofs.IdState as T
-use Rattle.idport.proofs.IdState.Laws as T′
-use Rattle.lent_steps.specs.declared.look.Seen.{Seen}
-use Rattle.lent_steps.specs.declared.look.Step.{Step}
-use Rattle.search.specs.declared.Wrote.{Wrote}
-use Rattle.search.specs.Calls.{wroteReply, portWrites}
-use Rattle.lent_steps.specs.Steps.{unseen, seenWith, writingOf, writtenBy, replyOf}
+use Rattle.port_rules.specs.declared.IdState.{IdState}
+use Rattle.port_rules.proofs.IdState as T
+use Rattle.port_rules.proofs.IdState.Laws as T′
+use Rattle.lent_port.specs.declared.look.Seen.{Seen}
+use Rattle.lent_port.specs.declared.look.Step.{Step}
+use Rattle.port_rules.specs.declared.Wrote.{Wrote}
+use Rattle.port_rules.specs.Calls.{wroteReply, portWrites}
+use Rattle.lent_port.specs.Steps.{unseen, seenWith, writingOf, writtenBy, replyOf}
 use Rattle.lent_port.specs.Lent.{lent, wroteOver}
 use Rattle.lent_port.proofs.Turns.{noCard as d, gone, gone-none, gone-length, gone-next}
 use Rattle.lent_port.proofs.Looked.{Looked, looked-none, looked-next, wrote-ends}
-use Rattle.lent_steps.proofs.look.Seen as Wk
-use Rattle.lent_steps.proofs.look.Seen.Laws as Wk′
-use Rattle.lent_steps.proofs.look.Step as Vr
-use Rattle.lent_steps.proofs.look.Step.Laws as Vr′
-use Rattle.search.proofs.Wrote as Rs
-use Rattle.search.proofs.Wrote.Laws as Rs′
-use Rattle.lent_steps.proofs.look.begin as begin
-use Rattle.lent_steps.proofs.look.begin.Symbol as begin-def
-use Rattle.lent_steps.proofs.look.begin.Symbol.{name as #lent-steps·look·begin}
-use Rattle.lent_steps.proofs.look.begin.Met as begin-thm
-use Rattle.lent_steps.proofs.look.at as take
-use Rattle.lent_steps.proofs.look.at.Symbol as take-def
-use Rattle.lent_steps.proofs.look.at.Symbol.{name as #lent-steps·look·at}
-use Rattle.lent_steps.proofs.look.at.Met as take-thm
-use Rattle.lent_steps.proofs.look.writing as perform
-use Rattle.lent_steps.proofs.look.writing.Symbol as perform-def
-use Rattle.lent_steps.proofs.look.writing.Symbol.{name as #lent-steps·look·writing}
-use Rattle.lent_steps.proofs.look.writing.Met as perform-thm
-use Rattle.lent_steps.proofs.look.written as give
-use Rattle.lent_steps.proofs.look.written.Symbol as give-def
-use Rattle.lent_steps.proofs.look.written.Symbol.{name as #lent-steps·look·written}
-use Rattle.lent_steps.proofs.look.written.Met as give-thm
-use Rattle.lent_steps.proofs.look.write_answer as reply
-use Rattle.lent_steps.proofs.look.write_answer.Symbol as reply-def
-use Rattle.lent_steps.proofs.look.write_answer.Symbol.{name as #lent-steps·look·write-answer}
-use Rattle.lent_steps.proofs.look.write_answer.Met as reply-thm
+use Rattle.lent_port.proofs.look.Seen as Wk
+use Rattle.lent_port.proofs.look.Seen.Laws as Wk′
+use Rattle.lent_port.proofs.look.Step as Vr
+use Rattle.lent_port.proofs.look.Step.Laws as Vr′
+use Rattle.port_rules.proofs.Wrote as Rs
+use Rattle.port_rules.proofs.Wrote.Laws as Rs′
+use Rattle.lent_port.proofs.look.begin as begin
+use Rattle.lent_port.proofs.look.begin.Symbol as begin-def
+use Rattle.lent_port.proofs.look.begin.Symbol.{name as #lent-steps·look·begin}
+use Rattle.lent_port.proofs.look.begin.Met as begin-thm
+use Rattle.lent_port.proofs.look.at as take
+use Rattle.lent_port.proofs.look.at.Symbol as take-def
+use Rattle.lent_port.proofs.look.at.Symbol.{name as #lent-steps·look·at}
+use Rattle.lent_port.proofs.look.at.Met as take-thm
+use Rattle.lent_port.proofs.look.writing as perform
+use Rattle.lent_port.proofs.look.writing.Symbol as perform-def
+use Rattle.lent_port.proofs.look.writing.Symbol.{name as #lent-steps·look·writing}
+use Rattle.lent_port.proofs.look.writing.Met as perform-thm
+use Rattle.lent_port.proofs.look.written as give
+use Rattle.lent_port.proofs.look.written.Symbol as give-def
+use Rattle.lent_port.proofs.look.written.Symbol.{name as #lent-steps·look·written}
+use Rattle.lent_port.proofs.look.written.Met as give-thm
+use Rattle.lent_port.proofs.look.write_answer as reply
+use Rattle.lent_port.proofs.look.write_answer.Symbol as reply-def
+use Rattle.lent_port.proofs.look.write_answer.Symbol.{name as #lent-steps·look·write-answer}
+use Rattle.lent_port.proofs.look.write_answer.Met as reply-thm
 use Rattle.lent_port.proofs.write.Key.{name as #lent-port·write}
 use Rattle.lent_port.proofs.write as call
 use Rattle.lent_port.proofs.write.Statement as stated
@@ -438,9 +438,9 @@ write-spec 𝓤 H 𝓜 𝓖 𝓡 =
     entered 𝓤 H (tripleOf 𝓤 H (𝓖 .A) call.signature (call.spec 𝓤 H (𝓖 .A) (𝓜 .mem) (𝓡 .run)))
     (tables 𝓤 H 𝓜 𝓡 code.env .C) (tables 𝓤 H 𝓜 𝓡 code.env .Λ) #lent-port·write code.function (code.unfolded 𝓤 H 𝓜 𝓡)
     (meets 𝓤 H (𝓖 .A) (givenOf 𝓤 H 𝓜 𝓖) (𝓜 .mem) (𝓡 .run) (tablesOf 𝓤 H 𝓜 (tables 𝓤 H 𝓜 𝓡 code.env)) (record {
-      begin-known = cited 𝓤 H (Begin 𝓤 H (𝓖 .A) (𝓜 .mem) (𝓡 .run)) 𝓜 𝓡 code.env #lent-steps·look·begin begin-def.routine code.calls-lent-steps·look·begin (begin-thm.met 𝓤 H 𝓜 𝓖 𝓡);
-      take-known = cited 𝓤 H (Take 𝓤 H (𝓖 .A) (𝓜 .mem) (𝓡 .run)) 𝓜 𝓡 code.env #lent-steps·look·at take-def.routine code.calls-lent-steps·look·at (take-thm.met 𝓤 H 𝓜 𝓖 𝓡);
-      perform-known = cited 𝓤 H (Perform 𝓤 H (𝓖 .A) (𝓜 .mem) (𝓡 .run)) 𝓜 𝓡 code.env #lent-steps·look·writing perform-def.routine code.calls-lent-steps·look·writing (perform-thm.met 𝓤 H 𝓜 𝓖 𝓡);
-      give-known = cited 𝓤 H (Give 𝓤 H (𝓖 .A) (𝓜 .mem) (𝓡 .run)) 𝓜 𝓡 code.env #lent-steps·look·written give-def.routine code.calls-lent-steps·look·written (give-thm.met 𝓤 H 𝓜 𝓖 𝓡);
-      reply-known = cited 𝓤 H (Reply 𝓤 H (𝓖 .A) (𝓜 .mem) (𝓡 .run)) 𝓜 𝓡 code.env #lent-steps·look·write-answer reply-def.routine code.calls-lent-steps·look·write-answer (reply-thm.met 𝓤 H 𝓜 𝓖 𝓡);
+      begin-known = cited 𝓤 H (Begin 𝓤 H (𝓖 .A) (𝓜 .mem) (𝓡 .run)) 𝓜 𝓡 code.env #lent-steps·look·begin begin-def.routine code.calls-lent-port·look·begin (begin-thm.met 𝓤 H 𝓜 𝓖 𝓡);
+      take-known = cited 𝓤 H (Take 𝓤 H (𝓖 .A) (𝓜 .mem) (𝓡 .run)) 𝓜 𝓡 code.env #lent-steps·look·at take-def.routine code.calls-lent-port·look·at (take-thm.met 𝓤 H 𝓜 𝓖 𝓡);
+      perform-known = cited 𝓤 H (Perform 𝓤 H (𝓖 .A) (𝓜 .mem) (𝓡 .run)) 𝓜 𝓡 code.env #lent-steps·look·writing perform-def.routine code.calls-lent-port·look·writing (perform-thm.met 𝓤 H 𝓜 𝓖 𝓡);
+      give-known = cited 𝓤 H (Give 𝓤 H (𝓖 .A) (𝓜 .mem) (𝓡 .run)) 𝓜 𝓡 code.env #lent-steps·look·written give-def.routine code.calls-lent-port·look·written (give-thm.met 𝓤 H 𝓜 𝓖 𝓡);
+      reply-known = cited 𝓤 H (Reply 𝓤 H (𝓖 .A) (𝓜 .mem) (𝓡 .run)) 𝓜 𝓡 code.env #lent-steps·look·write-answer reply-def.routine code.calls-lent-port·look·write-answer (reply-thm.met 𝓤 H 𝓜 𝓖 𝓡);
     }))

@@ -1,4 +1,4 @@
--- `abi::cards::seamtrout_card_wire_byte` meets its contract: its result is that of the public call, in numbers.
+-- `cards::seamtrout_card_wire_byte` meets its contract: its result is that of the public call, in numbers.
 -- Assumes nothing.
 use borrow.Author.Needs.{needs}
 use Rattle.abi.proofs.cards.seamtrout_card_wire_byte.Statement.{statement}

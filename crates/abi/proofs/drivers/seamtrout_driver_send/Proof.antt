@@ -1,4 +1,4 @@
--- `abi::drivers::seamtrout_driver_send` meets its contract: its result is that of the public call, in numbers.
+-- `drivers::seamtrout_driver_send` meets its contract: its result is that of the public call, in numbers.
 -- Assumes nothing.
 use borrow.Author.Needs.{needs}
 use Rattle.abi.proofs.drivers.seamtrout_driver_send.Statement.{statement}

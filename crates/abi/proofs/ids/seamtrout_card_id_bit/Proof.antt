@@ -1,4 +1,4 @@
--- `abi::ids::seamtrout_card_id_bit` meets its contract: each way of its tests is one of the definition.
+-- `ids::seamtrout_card_id_bit` meets its contract: each way of its tests is one of the definition.
 -- Assumes nothing.
 use borrow.Author.Needs.{needs}
 use borrow.Author.Tests.{not-true, not-false}

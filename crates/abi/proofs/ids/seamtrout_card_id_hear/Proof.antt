@@ -1,4 +1,4 @@
--- `abi::ids::seamtrout_card_id_hear` meets its contract: the step keeps the ID state sound, and it is seated.
+-- `ids::seamtrout_card_id_hear` meets its contract: the step keeps the ID state sound, and it is seated.
 -- Assumes nothing.
 use borrow.Author.Needs.{needs}
 use Rattle.abi.proofs.Port.{hear-sound}

@@ -1,12 +1,12 @@
--- `abi::ids::seated` meets its contract: each way of its tests is one of the definition.
+-- `ids::seated` meets its contract: each way of its tests is one of the definition.
 -- Assumes nothing.
 use borrow.Author.Needs.{needs}
 use borrow.Author.Tests.{not-true, not-false}
 use mathlib.Core.Path.{_≡_, sym, _∙_}
 use mathlib.Core.Bool.{true}
 use lib.ListN.{length}
-use Rattle.regs.specs.View.{Sound, soundCard}
-use Rattle.regs.proofs.Checked.{card-told}
+use Rattle.card_rules.specs.View.{Sound, soundCard}
+use Rattle.card_rules.proofs.Checked.{card-told}
 use Rattle.abi.proofs.Port.{unsound, outside, goes, identified}
 use Rattle.abi.proofs.ids.seated.Statement.{statement}
 use Rattle.abi.proofs.ids.seated.Tie as tie

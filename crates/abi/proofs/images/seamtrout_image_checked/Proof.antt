@@ -1,4 +1,4 @@
--- `abi::images::seamtrout_image_checked` meets its contract: its result is that of the public call, in numbers.
+-- `images::seamtrout_image_checked` meets its contract: its result is that of the public call, in numbers.
 -- Assumes nothing.
 use borrow.Author.Needs.{needs}
 use Rattle.abi.proofs.images.seamtrout_image_checked.Statement.{statement}

@@ -1,4 +1,4 @@
--- `abi::ports::seamtrout_bus_activate` meets its contract: its result is that of the public call, in numbers.
+-- `ports::seamtrout_bus_activate` meets its contract: its result is that of the public call, in numbers.
 -- Assumes nothing.
 use borrow.Author.Needs.{needs}
 use Rattle.abi.proofs.ports.seamtrout_bus_activate.Statement.{statement}

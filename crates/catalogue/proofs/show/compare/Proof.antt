@@ -1,4 +1,4 @@
--- `catalogue::show::compare` is safe and ends: the words are passed one by one.
+-- `show::compare` is safe and ends: the words are passed one by one.
 -- Assumes nothing.
 use Prim.Native.Nat.{_-_, _≤_}
 use borrow.Author.Needs.{needs}

@@ -1,4 +1,4 @@
--- `catalogue_add::write::with_card` meets its contract: three puts, one behind the other.
+-- `write::with_card` meets its contract: three puts, one behind the other.
 -- Assumes nothing.
 use Prim.Native.Nat.{_+_, _-_}
 use mathlib.Core.Path.{_≡_, sym}
@@ -6,10 +6,10 @@ use mathlib.Core.List.{[], _∷_}
 use native.Mathlib.Omega.{arith}
 use lib.ListN.{length, take}
 use lib.Seq.{length-take-le}
-use Rattle.fields.specs.Field.{field, bytesOf}
-use Rattle.catalogue_file.specs.Reading.{countField}
-use Rattle.archive.specs.Archive.{addressIn}
-use Rattle.changes.specs.Edit.{versionFields}
+use Rattle.catalogue_rules.specs.Field.{field, bytesOf}
+use Rattle.catalogue_rules.specs.Reading.{countField}
+use Rattle.catalogue_rules.specs.Archive.{addressIn}
+use Rattle.catalogue_rules.specs.Edit.{versionFields}
 use Rattle.catalogue_add.proofs.Whole.{count-length}
 use Rattle.catalogue_add.proofs.Chains.{card-length, three-put}
 use borrow.Author.Needs.{needs}

@@ -1,4 +1,4 @@
--- `catalogue_add::write::with_version` meets its contract: four puts, one behind the other.
+-- `write::with_version` meets its contract: four puts, one behind the other.
 -- Assumes nothing.
 use Prim.Native.Nat.{_+_, _-_}
 use mathlib.Core.Path.{_≡_, sym}
@@ -6,10 +6,10 @@ use mathlib.Core.List.{[], _∷_}
 use native.Mathlib.Omega.{arith}
 use lib.ListN.{length, take, drop}
 use lib.Seq.{length-take-le}
-use Rattle.fields.specs.Field.{bytesOf}
-use Rattle.catalogue_file.specs.Reading.{countField}
-use Rattle.changes.specs.Edit.{versionFields}
-use Rattle.catalogue_put.proofs.Chain.{version-length}
+use Rattle.catalogue_rules.specs.Field.{bytesOf}
+use Rattle.catalogue_rules.specs.Reading.{countField}
+use Rattle.catalogue_rules.specs.Edit.{versionFields}
+use Rattle.catalogue_rules.proofs.Chain.{version-length}
 use Rattle.catalogue_add.proofs.Whole.{count-length}
 use Rattle.catalogue_add.proofs.Chains.{part-length, four-put}
 use borrow.Author.Needs.{needs}

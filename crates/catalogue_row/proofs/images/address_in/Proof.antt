@@ -1,4 +1,4 @@
--- `catalogue_row::images::address_in` meets its contract: words 00h to 02h of the image, high byte first.
+-- `images::address_in` meets its contract: words 00h to 02h of the image, high byte first.
 -- Assumes nothing.
 use borrow.Author.Needs.{needs}
 use Rattle.catalogue_row.proofs.images.address_in.Statement.{statement}

@@ -1,12 +1,12 @@
--- `catalogue_row::images::any_for` meets its contract. The invariant: whether one of those left is refused so tells it of all.
+-- `images::any_for` meets its contract. The invariant: whether one of those left is refused so tells it of all.
 -- The measure is how many images are left.
 -- Assumes nothing.
 use Prim.Native.Nat.{_+_, _*_, _≤_}
 use native.Mathlib.Omega.{arith}
 use mathlib.Core.Path.{_≡_, refl, ap, _∙_}
 use lib.ListN.{length, drop}
-use Rattle.eeprom.specs.Image.{checkOf}
-use Rattle.changes.specs.Edit.{imagesWithin, isFor, anyFor}
+use Rattle.image_rules.specs.Image.{checkOf}
+use Rattle.catalogue_rules.specs.Edit.{imagesWithin, isFor, anyFor}
 use Rattle.catalogue_row.proofs.Each.{none-for, for-here, for-later, so-many}
 use borrow.Author.Needs.{needs}
 use Rattle.catalogue_row.proofs.images.any_for.Statement.{statement}

@@ -1,13 +1,13 @@
--- `catalogue_row::images::any_twice` meets its contract. The invariant: two of the images left have one address exactly if two of all have.
+-- `images::any_twice` meets its contract. The invariant: two of the images left have one address exactly if two of all have.
 -- The measure is how many images are left.
 -- Assumes nothing.
 use Prim.Native.Nat.{_+_, _*_, _≤_}
 use native.Mathlib.Omega.{arith}
 use mathlib.Core.Path.{_≡_, refl}
 use lib.ListN.{length, drop}
-use Rattle.catalogue_file.specs.Reading.{anyTwice}
-use Rattle.archive.specs.Archive.{addressesIn}
-use Rattle.changes.specs.Edit.{imagesWithin}
+use Rattle.catalogue_rules.specs.Reading.{anyTwice}
+use Rattle.catalogue_rules.specs.Archive.{addressesIn}
+use Rattle.catalogue_rules.specs.Edit.{imagesWithin}
 use Rattle.catalogue_row.proofs.Each.{none-twice, twice-here, twice-later}
 use borrow.Author.Needs.{needs}
 use Rattle.catalogue_row.proofs.images.any_twice.Statement.{statement}

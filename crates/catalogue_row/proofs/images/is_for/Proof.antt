@@ -1,8 +1,8 @@
--- `catalogue_row::images::is_for` meets its contract: the numbers tell refusals apart.
+-- `images::is_for` meets its contract: the numbers tell refusals apart.
 -- Assumes nothing.
 use mathlib.Core.Path.{sym, ap, ap₂, _∙_}
 use lib.Dec.{eqb}
-use Rattle.changes.specs.Edit.{isFor}
+use Rattle.catalogue_rules.specs.Edit.{isFor}
 use borrow.Author.Needs.{needs}
 use Rattle.catalogue_row.proofs.images.is_for.Statement.{statement}
 use Rattle.catalogue_row.proofs.images.is_for.Tie as tie

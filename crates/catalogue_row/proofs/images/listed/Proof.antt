@@ -1,13 +1,13 @@
--- `catalogue_row::images::listed` meets its contract. The invariant: the address is among those of the images left exactly if it is among all.
+-- `images::listed` meets its contract. The invariant: the address is among those of the images left exactly if it is among all.
 -- The measure is how many images are left.
 -- Assumes nothing.
 use Prim.Native.Nat.{_+_, _*_, _≤_}
 use native.Mathlib.Omega.{arith}
 use mathlib.Core.Path.{_≡_, refl}
 use lib.ListN.{length, drop}
-use Rattle.catalogue_file.specs.Reading.{isAmong}
-use Rattle.archive.specs.Archive.{addressesIn}
-use Rattle.changes.specs.Edit.{imagesWithin}
+use Rattle.catalogue_rules.specs.Reading.{isAmong}
+use Rattle.catalogue_rules.specs.Archive.{addressesIn}
+use Rattle.catalogue_rules.specs.Edit.{imagesWithin}
 use Rattle.catalogue_row.proofs.Each.{none-listed, listed-here, listed-later}
 use borrow.Author.Needs.{needs}
 use Rattle.catalogue_row.proofs.images.listed.Statement.{statement}

@@ -1,10 +1,10 @@
--- `catalogue_row::latest::passed` meets its contract: the lookup's newest image is the card's latest.
+-- `latest::passed` meets its contract: the lookup's newest image is the card's latest.
 -- Assumes nothing.
 use mathlib.Core.Path.{sym, ap, _∙_}
 use lib.ListN.{drop}
-use Rattle.fields.specs.Field.{fieldsOf}
-use Rattle.catalogue_lookup.specs.Lookup.{shownAt}
-use Rattle.catalogue_lookup.proofs.Shows.{shows-newest}
+use Rattle.catalogue_rules.specs.Field.{fieldsOf}
+use Rattle.catalogue_rules.specs.Lookup.{shownAt}
+use Rattle.catalogue_rules.proofs.Shows.{shows-newest}
 use Rattle.catalogue_row.proofs.Outward.{no-card, no-version, image-fits, image-put}
 use borrow.Author.Needs.{needs}
 use Rattle.catalogue_row.proofs.latest.passed.Statement.{statement}

@@ -1,11 +1,11 @@
--- `catalogue_row::latest::row` meets its contract. The invariant: what the fields left still add makes the whole archive, and there is room for it.
+-- `latest::row` meets its contract. The invariant: what the fields left still add makes the whole archive, and there is room for it.
 -- The measure is what is left of the file.
 -- Assumes nothing.
 use Prim.Native.Nat.{_+_, _-_}
 use native.Mathlib.Omega.{arith}
 use mathlib.Core.Path.{sym, _∙_}
 use lib.ListN.{length}
-use Rattle.fields.proofs.At.{stands, stops}
+use Rattle.catalogue_rules.proofs.At.{stands, stops}
 use Rattle.catalogue_row.proofs.Outward.{Going, going-begins, going-ends, sizes-on, room-here, going-on}
 use borrow.Author.Needs.{needs}
 use Rattle.catalogue_row.proofs.latest.row.Statement.{statement}

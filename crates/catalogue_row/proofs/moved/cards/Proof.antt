@@ -1,4 +1,4 @@
--- `catalogue_row::moved::cards` meets its contract. The invariant: what is still to be put makes the whole file, and there is room for it.
+-- `moved::cards` meets its contract. The invariant: what is still to be put makes the whole file, and there is room for it.
 -- The measure is how many images are left.
 -- Assumes nothing.
 use native.Mathlib.Omega.{arith}

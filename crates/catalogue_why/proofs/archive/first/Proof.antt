@@ -1,4 +1,4 @@
--- `catalogue_why::archive::first` is safe and ends: the place stays within the archive, and the images passed are fewer than its bytes.
+-- `archive::first` is safe and ends: the place stays within the archive, and the images passed are fewer than its bytes.
 -- Assumes nothing.
 use Prim.Native.Nat.{_-_, _≤_}
 use lib.ListN.{length}

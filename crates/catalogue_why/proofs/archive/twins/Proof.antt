@@ -1,4 +1,4 @@
--- `catalogue_why::archive::twins` is safe and ends: the place stays within the archive, and the images passed are fewer than its bytes.
+-- `archive::twins` is safe and ends: the place stays within the archive, and the images passed are fewer than its bytes.
 -- Assumes nothing.
 use Prim.Native.Nat.{_-_, _≤_}
 use native.Mathlib.Omega.{arith}

@@ -1,4 +1,4 @@
--- `catalogue_why::file::cards` is safe and ends: each card takes a byte or more, so that the count stays below the place.
+-- `file::cards` is safe and ends: each card takes a byte or more, so that the count stays below the place.
 -- Assumes nothing.
 use Prim.Native.Nat.{_-_, _≤_}
 use lib.ListN.{length}

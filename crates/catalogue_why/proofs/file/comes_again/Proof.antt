@@ -1,4 +1,4 @@
--- `catalogue_why::file::comes_again` is safe: the part before the place lies in the file.
+-- `file::comes_again` is safe: the part before the place lies in the file.
 -- Assumes nothing.
 use native.Mathlib.Omega.{arith}
 use lib.ListN.{length-take}

@@ -1,4 +1,4 @@
--- `catalogue_why::file::damage` is safe and ends: what lies between the two ends shrinks by half.
+-- `file::damage` is safe and ends: what lies between the two ends shrinks by half.
 -- Assumes nothing.
 use Prim.Native.Nat.{_-_, _≤_}
 use native.Mathlib.Omega.{arith}

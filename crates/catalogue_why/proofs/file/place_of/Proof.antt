@@ -1,4 +1,4 @@
--- `catalogue_why::file::place_of` is safe and ends: the place stays within the file, and the measure is what is left of it.
+-- `file::place_of` is safe and ends: the place stays within the file, and the measure is what is left of it.
 -- Assumes nothing.
 use Prim.Native.Nat.{_-_, _≤_}
 use lib.ListN.{length}

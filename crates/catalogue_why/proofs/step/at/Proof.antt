@@ -1,8 +1,8 @@
--- `catalogue_why::step::at` meets its contract: a whole field lies in the file behind its place.
+-- `step::at` meets its contract: a whole field lies in the file behind its place.
 -- Assumes nothing.
 use native.Mathlib.Omega.{arith}
 use mathlib.Core.Path.{sym, _∙_}
-use Rattle.fields.proofs.At.{stands, Stands}
+use Rattle.catalogue_rules.proofs.At.{stands, Stands}
 use borrow.Author.Needs.{needs}
 use Rattle.catalogue_why.proofs.step.at.Statement.{statement}
 use Rattle.catalogue_why.proofs.step.at.Tie as tie

@@ -1,4 +1,4 @@
--- `codes::cards::coded_done` meets its contract: field by field, it is the definition.
+-- `cards::coded_done` meets its contract: field by field, it is the definition.
 -- Assumes nothing.
 use borrow.Author.Needs.{needs}
 use mathlib.Core.Path.{refl}

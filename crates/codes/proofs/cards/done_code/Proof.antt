@@ -1,4 +1,4 @@
--- `codes::cards::done_code`: a refusal gives its own number.
+-- `cards::done_code`: a refusal gives its own number.
 -- Assumes nothing.
 use borrow.Author.Needs.{needs}
 use Rattle.codes.proofs.cards.done_code.Statement.{statement}

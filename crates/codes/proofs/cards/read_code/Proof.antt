@@ -1,4 +1,4 @@
--- `codes::cards::read_code`: a refusal gives its own number.
+-- `cards::read_code`: a refusal gives its own number.
 -- Assumes nothing.
 use borrow.Author.Needs.{needs}
 use Rattle.codes.proofs.cards.read_code.Statement.{statement}

@@ -1,4 +1,4 @@
--- `codes::cards::told_code`: a refusal gives its own number.
+-- `cards::told_code`: a refusal gives its own number.
 -- Assumes nothing.
 use borrow.Author.Needs.{needs}
 use Rattle.codes.proofs.cards.told_code.Statement.{statement}

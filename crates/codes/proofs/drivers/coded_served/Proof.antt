@@ -1,4 +1,4 @@
--- `codes::drivers::coded_served` meets its contract: field by field, it is the definition.
+-- `drivers::coded_served` meets its contract: field by field, it is the definition.
 -- Assumes nothing.
 use borrow.Author.Needs.{needs}
 use mathlib.Core.Path.{refl}

@@ -1,4 +1,4 @@
--- `codes::drivers::open_code`: a refusal gives its own number.
+-- `drivers::open_code`: a refusal gives its own number.
 -- Assumes nothing.
 use borrow.Author.Needs.{needs}
 use Rattle.codes.proofs.drivers.open_code.Statement.{statement}

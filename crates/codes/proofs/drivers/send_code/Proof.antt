@@ -1,4 +1,4 @@
--- `codes::drivers::send_code`: a refusal gives its own number.
+-- `drivers::send_code`: a refusal gives its own number.
 -- Assumes nothing.
 use borrow.Author.Needs.{needs}
 use Rattle.codes.proofs.drivers.send_code.Statement.{statement}

@@ -1,4 +1,4 @@
--- `codes::drivers::service_told` meets its contract: each arm is its clause of the definition.
+-- `drivers::service_told` meets its contract: each arm is its clause of the definition.
 -- Assumes nothing.
 use borrow.Author.Needs.{needs}
 use mathlib.Core.Path.{refl}

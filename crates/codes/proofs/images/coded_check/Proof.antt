@@ -1,4 +1,4 @@
--- `codes::images::coded_check` meets its contract: each arm is its clause of the definition.
+-- `images::coded_check` meets its contract: each arm is its clause of the definition.
 -- Assumes nothing.
 use borrow.Author.Needs.{needs}
 use mathlib.Core.Path.{refl}

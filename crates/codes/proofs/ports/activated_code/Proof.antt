@@ -1,4 +1,4 @@
--- `codes::ports::activated_code`: a refusal gives its own number.
+-- `ports::activated_code`: a refusal gives its own number.
 -- Assumes nothing.
 use borrow.Author.Needs.{needs}
 use Rattle.codes.proofs.ports.activated_code.Statement.{statement}

@@ -1,4 +1,4 @@
--- `codes::ports::coded_activated` meets its contract: field by field, it is the definition.
+-- `ports::coded_activated` meets its contract: field by field, it is the definition.
 -- Assumes nothing.
 use borrow.Author.Needs.{needs}
 use mathlib.Core.Path.{refl}

@@ -1,4 +1,4 @@
--- `codes::ports::found_code`: a refusal gives its own number.
+-- `ports::found_code`: a refusal gives its own number.
 -- Assumes nothing.
 use borrow.Author.Needs.{needs}
 use Rattle.codes.proofs.ports.found_code.Statement.{statement}

@@ -1,4 +1,4 @@
--- `promises::beside::a_frame_of_1514_bytes` meets its contract, by computing. Assumes nothing.
+-- `beside::a_frame_of_1514_bytes` meets its contract, by computing. Assumes nothing.
 use Rattle.driver_examples.proofs.Long.{frame-of-1514}
 use Rattle.promises.proofs.beside.a_frame_of_1514_bytes.Statement.{statement}
 use Rattle.promises.proofs.beside.a_frame_of_1514_bytes.Tie as tie

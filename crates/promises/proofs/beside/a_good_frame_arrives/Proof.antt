@@ -1,4 +1,4 @@
--- `promises::beside::a_good_frame_arrives` meets its contract, by the law `good-arrives`. Assumes nothing.
+-- `beside::a_good_frame_arrives` meets its contract, by the law `good-arrives`. Assumes nothing.
 use Rattle.frames_carried.proofs.Arrive.{good-arrives}
 use Rattle.promises.proofs.beside.a_good_frame_arrives.Statement.{statement}
 use Rattle.promises.proofs.beside.a_good_frame_arrives.Tie as tie

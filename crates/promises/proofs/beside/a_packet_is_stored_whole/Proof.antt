@@ -1,4 +1,4 @@
--- `promises::beside::a_packet_is_stored_whole` meets its contract, by the law `stored-whole`. Assumes nothing.
+-- `beside::a_packet_is_stored_whole` meets its contract, by the law `stored-whole`. Assumes nothing.
 use Rattle.sends_carried.proofs.Stored.{stored-whole}
 use Rattle.promises.proofs.beside.a_packet_is_stored_whole.Statement.{statement}
 use Rattle.promises.proofs.beside.a_packet_is_stored_whole.Tie as tie

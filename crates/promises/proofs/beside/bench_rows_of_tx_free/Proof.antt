@@ -1,4 +1,4 @@
--- `promises::beside::bench_rows_of_tx_free` meets its contract, by the law `rows`. Assumes nothing.
+-- `beside::bench_rows_of_tx_free` meets its contract, by the law `rows`. Assumes nothing.
 use Rattle.sends_carried.proofs.Rooms.{rows}
 use Rattle.promises.proofs.beside.bench_rows_of_tx_free.Statement.{statement}
 use Rattle.promises.proofs.beside.bench_rows_of_tx_free.Tie as tie

@@ -1,4 +1,4 @@
--- `promises::beside::clear_states` meets its contract, by the law `clear`. Assumes nothing.
+-- `beside::clear_states` meets its contract, by the law `clear`. Assumes nothing.
 use Rattle.sends_carried.proofs.Carried.{clear}
 use Rattle.promises.proofs.beside.clear_states.Statement.{statement}
 use Rattle.promises.proofs.beside.clear_states.Tie as tie

@@ -1,5 +1,5 @@
--- `promises::beside::comes_at_once` meets its contract, by the law `unfit-at-once`. Assumes nothing.
-use Rattle.unfit.proofs.Unfit.{unfit-at-once}
+-- `beside::comes_at_once` meets its contract, by the law `unfit-at-once`. Assumes nothing.
+use Rattle.driver_rules.proofs.Unfit.{unfit-at-once}
 use Rattle.promises.proofs.beside.comes_at_once.Statement.{statement}
 use Rattle.promises.proofs.beside.comes_at_once.Tie as tie
 

@@ -1,4 +1,4 @@
--- `promises::beside::not_at_rest_leaves_a_trace` meets its contract, by computing. Assumes nothing.
+-- `beside::not_at_rest_leaves_a_trace` meets its contract, by computing. Assumes nothing.
 use Rattle.no_trace.proofs.Examples.{not-at-rest}
 use Rattle.promises.proofs.beside.not_at_rest_leaves_a_trace.Statement.{statement}
 use Rattle.promises.proofs.beside.not_at_rest_leaves_a_trace.Tie as tie

@@ -1,4 +1,4 @@
--- `promises::beside::one_good_frame_is_stored` meets its contract, by the law `one-stored`. Assumes nothing.
+-- `beside::one_good_frame_is_stored` meets its contract, by the law `one-stored`. Assumes nothing.
 use Rattle.frames_carried.proofs.One.{one-stored}
 use Rattle.promises.proofs.beside.one_good_frame_is_stored.Statement.{statement}
 use Rattle.promises.proofs.beside.one_good_frame_is_stored.Tie as tie

@@ -1,4 +1,4 @@
--- `promises::beside::send_examples` meets its contract, by computing. Assumes nothing.
+-- `beside::send_examples` meets its contract, by computing. Assumes nothing.
 use Rattle.driver_examples.proofs.Send.{send-examples}
 use Rattle.promises.proofs.beside.send_examples.Statement.{statement}
 use Rattle.promises.proofs.beside.send_examples.Tie as tie

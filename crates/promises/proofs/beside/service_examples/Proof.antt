@@ -1,4 +1,4 @@
--- `promises::beside::service_examples` meets its contract, by computing. Assumes nothing.
+-- `beside::service_examples` meets its contract, by computing. Assumes nothing.
 use Rattle.driver_examples.proofs.Service.{service-examples}
 use Rattle.promises.proofs.beside.service_examples.Statement.{statement}
 use Rattle.promises.proofs.beside.service_examples.Tie as tie

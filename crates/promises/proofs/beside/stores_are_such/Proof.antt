@@ -1,4 +1,4 @@
--- `promises::beside::stores_are_such` meets its contract, by the law `stores-are-such`. Assumes nothing.
+-- `beside::stores_are_such` meets its contract, by the law `stores-are-such`. Assumes nothing.
 use Rattle.frames_carried.proofs.Memory.{stores-are-such}
 use Rattle.promises.proofs.beside.stores_are_such.Statement.{statement}
 use Rattle.promises.proofs.beside.stores_are_such.Tie as tie

@@ -1,4 +1,4 @@
--- `promises::beside::two_stretches` meets its contract, by computing. Assumes nothing.
+-- `beside::two_stretches` meets its contract, by computing. Assumes nothing.
 use Rattle.no_trace.proofs.Examples.{two-stretches}
 use Rattle.promises.proofs.beside.two_stretches.Statement.{statement}
 use Rattle.promises.proofs.beside.two_stretches.Tie as tie

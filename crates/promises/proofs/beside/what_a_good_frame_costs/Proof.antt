@@ -1,4 +1,4 @@
--- `promises::beside::what_a_good_frame_costs` meets its contract, it is the law of the cost. Assumes nothing.
+-- `beside::what_a_good_frame_costs` meets its contract, it is the law of the cost. Assumes nothing.
 use Rattle.driver_examples.proofs.Cost.{frame-cost}
 use Rattle.promises.proofs.beside.what_a_good_frame_costs.Statement.{statement}
 use Rattle.promises.proofs.beside.what_a_good_frame_costs.Tie as tie

@@ -1,3 +1,0 @@
--- Laws of lines, and examples.
-pub mod Spoken
-pub mod Examples

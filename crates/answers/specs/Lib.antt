@@ -1,2 +1,0 @@
--- What the contracts of `answers` cite.
-pub mod Answers

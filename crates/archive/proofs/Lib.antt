@@ -1,3 +1,0 @@
--- The law and worked examples.
-pub mod OutAfter
-mod Examples

@@ -1,2 +1,0 @@
--- Today's archive, moved in and written out.
-pub mod Archive

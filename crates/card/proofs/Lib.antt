@@ -1,3 +1,0 @@
-pub mod Judged
-pub mod Power
-pub mod Examples

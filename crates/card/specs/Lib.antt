@@ -1,3 +1,0 @@
--- What the contracts of the public card calls cite.
-pub mod Calls
-pub mod Contracts

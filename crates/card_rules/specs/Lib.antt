@@ -1,0 +1,22 @@
+-- The card: its registers and Status, power-on, EEPROM commands, the commands, the register map, the steps, and the public calls' answers.
+pub mod Access
+pub mod Adapter
+pub mod Calls
+pub mod Command
+pub mod Contracts
+pub mod Eeprom
+pub mod Effect
+pub mod Event
+pub mod Gives
+pub mod Groups
+pub mod Power
+pub mod Read
+pub mod Room
+pub mod Seat
+pub mod Settle
+pub mod Sound
+pub mod Status
+pub mod Tests
+pub mod Update
+pub mod View
+pub mod Write

@@ -1,2 +1,0 @@
--- What the lookups show of a changed catalogue.
-pub mod After

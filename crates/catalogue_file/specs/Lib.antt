@@ -1,6 +1,0 @@
--- What the contracts of `catalogue_file` cite.
-pub mod Turns
-pub mod Reading
-pub mod Cards
-pub mod Walk
-pub mod Contracts

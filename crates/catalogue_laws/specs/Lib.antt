@@ -1,2 +1,0 @@
--- What is proved of a catalogue's file.
-pub mod RoundTrip

@@ -1,3 +1,0 @@
--- Laws of the places and of the counts.
-mod Passed
-mod Counted

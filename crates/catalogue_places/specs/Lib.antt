@@ -1,2 +1,0 @@
--- What the contracts of `catalogue_places` cite.
-pub mod Places

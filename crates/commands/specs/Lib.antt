@@ -1,2 +1,0 @@
--- What the contracts of the commands cite.
-pub mod Command

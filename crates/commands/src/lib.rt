@@ -1,2 +1,0 @@
-// The commands of the Command register.
-// Here the definitions; the functions are the crate `commands_code`.

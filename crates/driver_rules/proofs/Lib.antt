@@ -1,0 +1,22 @@
+-- The driver: calls as trees of accesses, its state, open, send, the items of a service, a whole service, hand_up.
+pub mod DriverExamples
+pub mod Going
+pub mod HandUp
+pub mod ItemWays
+pub mod ItemsExamples
+pub mod Keeps
+pub mod OpenWays
+pub mod OpeningExamples
+pub mod Reading
+pub mod Runs
+pub mod SendWays
+pub mod SendingExamples
+pub mod ServiceExamples
+pub mod ServiceWays
+pub mod ServingExamples
+pub mod ServingUnmoved
+pub mod Status
+pub mod TalkExamples
+pub mod Unfit
+pub mod Unmoved
+pub mod Ways

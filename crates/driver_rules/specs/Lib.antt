@@ -1,0 +1,19 @@
+-- The driver: calls as trees of accesses, its state, open, send, the items of a service, a whole service, hand_up.
+pub mod Areas
+pub mod Calls
+pub mod Driver
+pub mod HandUp
+pub mod Items
+pub mod Meets
+pub mod Open
+pub mod Opens
+pub mod Packet
+pub mod Paper
+pub mod Registers
+pub mod Send
+pub mod Sends
+pub mod Serves
+pub mod Service
+pub mod Serving
+pub mod Talk
+pub mod Unfit

@@ -1,2 +1,0 @@
--- What the contracts of `eeprom` cite.
-pub mod Image

@@ -1,3 +1,0 @@
--- The law and the worked examples.
-mod Noticed
-mod Examples

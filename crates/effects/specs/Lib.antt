@@ -1,2 +1,0 @@
--- What the contracts of the effects cite.
-pub mod Effect

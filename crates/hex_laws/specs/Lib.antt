@@ -1,2 +1,0 @@
--- What is printed is read back.
-pub mod RoundTrip

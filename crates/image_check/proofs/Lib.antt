@@ -1,0 +1,3 @@
+-- The law and the worked examples.
+mod Examples
+mod Noticed

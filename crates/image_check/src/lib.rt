@@ -1,0 +1,93 @@
+// An EEPROM image: 128 bytes, 64 words, low byte first; its checksums and its check.
+// No call here asks anything of its caller: past an image's end every byte counts as 0.
+mod one_byte; // one_byte.rt: what the image check is good for: theorems over its definitions
+mod walk;
+
+ghost use mathlib.Core.Path.{_≡_};
+ghost use Rattle.image_rules.specs.Image.{placeOf, byteAt, wordAt, checksumOf, secondaryOf, checkOf};
+use crate::walk::both_bytes;
+use crate::walk::pair;
+use crate::walk::span_xor;
+use image_rules::BytePlace;
+use image_rules::Checked;
+use image_rules::WordOffset;
+use refusal::Refusal;
+
+// Word 07h of every image.
+const MAKER: u16 = 0x6d50;
+
+// The one way from word offsets to byte places: the place of the word's low byte.
+// An offset has six bits, as an EEPROM command's address has.
+pub fn place_of(w: WordOffset) -> BytePlace
+    ensures { λ r. ⌜ r .0 ≡ placeOf (w .0) ⌝ }
+{
+    BytePlace(2 * (w.0 % 64))
+}
+
+// The byte at a place; 0 past the image's end.
+pub fn byte_at(image: &[u8], at: BytePlace) -> u8
+    ensures { λ r. ⌜ r ≡ byteAt (now (image .entry)) (at .0) ⌝ }
+{
+    let place = at.0;
+    if place < image.len() {
+        return image[place];
+    }
+    0
+}
+
+// The word at an offset.
+pub fn word_at(image: &[u8], w: WordOffset) -> u16
+    ensures { λ r. ⌜ r ≡ wordAt (now (image .entry)) (w .0) ⌝ }
+{
+    let low = place_of(w).0;
+    pair(
+        byte_at(image, BytePlace(low + 1)),
+        byte_at(image, BytePlace(low)),
+    )
+}
+
+// What word 0Fh must be.
+pub fn checksum(image: &[u8]) -> u16
+    ensures { λ r. ⌜ r ≡ checksumOf (now (image .entry)) ⌝ }
+{
+    let high = span_xor(image, WordOffset(0x00), WordOffset(0x07))
+        ^ span_xor(image, WordOffset(0x0a), WordOffset(0x0c))
+        ^ both_bytes(image, WordOffset(0x0e));
+    let low = both_bytes(image, WordOffset(0x08))
+        ^ both_bytes(image, WordOffset(0x09))
+        ^ both_bytes(image, WordOffset(0x0d));
+    pair(high, low)
+}
+
+// What word 17h must be: vital data in the high byte, configurable data in the low one.
+pub fn secondary(image: &[u8]) -> u16
+    ensures { λ r. ⌜ r ≡ secondaryOf (now (image .entry)) ⌝ }
+{
+    let vital = span_xor(image, WordOffset(0x10), WordOffset(0x12))
+        ^ span_xor(image, WordOffset(0x20), WordOffset(0x3f));
+    let configurable = span_xor(image, WordOffset(0x13), WordOffset(0x16));
+    pair(vital, configurable)
+}
+
+// Checks an image of any length. The first of 2, 8, 9 and 10 that is due is the answer.
+pub fn check(image: &[u8]) -> Checked
+    ensures { λ r. ⌜ r ≡ checkOf (now (image .entry)) ⌝ }
+{
+    if image.len() != 128 {
+        return Checked::Refused(Refusal::LengthOutside);
+    }
+    if word_at(image, WordOffset(0x07)) != MAKER {
+        return Checked::Refused(Refusal::MakerWrong);
+    }
+    if word_at(image, WordOffset(0x0f)) != checksum(image) {
+        return Checked::Refused(Refusal::ChecksumWrong);
+    }
+    if word_at(image, WordOffset(0x17)) != secondary(image) {
+        return Checked::Refused(Refusal::SecondaryWrong);
+    }
+    Checked::Sound {
+        node0: word_at(image, WordOffset(0x00)),
+        node1: word_at(image, WordOffset(0x01)),
+        node2: word_at(image, WordOffset(0x02)),
+    }
+}

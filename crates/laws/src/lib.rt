@@ -1,1 +1,0 @@
-// Laws of Bool tests, of lists and of lent structs that several crates cite; no code.

@@ -1,3 +1,0 @@
--- Laws of the oldest packet.
-pub mod Leave
-pub mod Told

@@ -1,2 +1,0 @@
--- Laws that the proofs of `lent_steps` cite.
-pub mod Places

@@ -1,2 +1,0 @@
--- What the contracts of `lent_steps` cite.
-pub mod Steps

@@ -1,3 +1,0 @@
--- What the contracts of opening cite.
-pub mod Open
-pub mod Opens

@@ -1,2 +1,0 @@
--- What the contracts of `port_cards` cite.
-pub mod Gathered

@@ -1,0 +1,33 @@
+// The packet being written.
+ghost use mathlib.Core.Path.{_≡_};
+ghost use Prim.Native.Nat.{_+_, _*_, _-_, _≤_};
+ghost use Rattle.store.specs.Store.{roomOf, part};
+ghost use Rattle.transmit_rules.specs.Queue.{free};
+ghost use Rattle.transmit_rules.specs.Write.{withPart, written, completed};
+ghost use Rattle.transmit_rules.specs.QueueView.{queueOf, Holds, Turns};
+use transmit_rules::Fifo;
+
+// A word of data; its two bytes go to `at`, the low one first.
+pub fn put_data(ram: &mut [u8], dir: &[u16], size: usize, f: Fifo, at: usize, v: u16) -> Fifo
+    requires { ⌜ Holds size f (now ram) (now dir) × (2 ≤ f .words) × (2 ≤ free size (queueOf size f (now ram) (now dir))) ⌝ }
+    requires { ⌜ at ≡ 8192 - size + roomOf (part 768 (f .packets) (now dir)) + 2 * (f .words - 2) ⌝ }
+    ensures { λ r. ⌜ Turns size r (now (ram .entry)) (now (dir .entry)) (now (ram .exit)) (now (dir .exit)) (completed (withPart (written v (queueOf size f (now (ram .entry)) (now (dir .entry)) .part)) (queueOf size f (now (ram .entry)) (now (dir .entry))))) ⌝ }
+{
+    let n = f.packets;
+    let k = f.words;
+    ram[at] = (v % 256) as u8;
+    ram[at + 1] = (v / 256) as u8;
+    let len = (dir[768 + n] % 2048) as usize;
+    if 2 * k == (len + 3) / 4 * 4 + 2 {
+        return Fifo {
+            failed: f.failed,
+            packets: n + 1,
+            words: 0,
+        };
+    }
+    Fifo {
+        failed: f.failed,
+        packets: n,
+        words: k + 1,
+    }
+}

@@ -1,8 +1,0 @@
--- What the contracts of the receive side cite, in the order of document 01's section "Receiving".
-pub mod Frame
-pub mod Update
-pub mod Wire
-pub mod Reading
-pub mod Early
-pub mod Sound
-pub mod View

@@ -1,0 +1,182 @@
+// What the host reads of the receive side, and the commands that drop frames: RX Status, RX Complete, RX Free, the data read, RX Discard, RX Reset.
+ghost use mathlib.Core.Path.{_≡_};
+ghost use Prim.Native.Nat.{_<_};
+ghost use lib.ListN.{getD};
+ghost use Rattle.store.specs.Store as store;
+ghost use Rattle.receive_rules.specs.Reading.{rxStatus, complete, rxFree, oldest, dataWord, afterRead, discard as discardOf, deafened, rxReset};
+ghost use Rattle.receive_rules.specs.View.{rxArea, framesOf, rxOf, Sound, Step};
+use crate::sound;
+use receive_rules::Receive;
+use receive_rules::Receiver;
+use store::Area;
+
+// RX Status shows the oldest frame.
+pub fn rx_status(ram: &[u8], dir: &[u16], size: usize, r: Receive) -> u16
+    requires { ⌜ Sound size r (now ram) (now dir) ⌝ }
+    ensures { λ o. ⌜ o ≡ rxStatus (r .receiver .read) (framesOf size (r .frames) (now (ram .entry)) (now (dir .entry))) ⌝ }
+{
+    let count = r.frames;
+    if count == 0 {
+        return 32768;
+    }
+    let w = dir[0];
+    let n = w % 2048;
+    let left = (n + 2048 - r.receiver.read) % 2048;
+    if 32768 <= w {
+        return 32768 + left;
+    }
+    if 16384 <= w {
+        return w - n + left;
+    }
+    left
+}
+
+// RX Complete stands while the oldest frame is complete.
+pub fn rx_complete(ram: &[u8], dir: &[u16], size: usize, r: Receive) -> bool
+    requires { ⌜ Sound size r (now ram) (now dir) ⌝ }
+    ensures { λ o. ⌜ o ≡ complete (framesOf size (r .frames) (now (ram .entry)) (now (dir .entry))) ⌝ }
+{
+    let count = r.frames;
+    if count == 0 {
+        return false;
+    }
+    let w = dir[0];
+    !(32768 <= w)
+}
+
+// RX Free: the room that no stored frame takes.
+pub fn rx_free(ram: &[u8], dir: &[u16], size: usize, r: Receive) -> usize
+    requires { ⌜ Sound size r (now ram) (now dir) ⌝ }
+    ensures { λ o. ⌜ o ≡ rxFree size (framesOf size (r .frames) (now (ram .entry)) (now (dir .entry))) ⌝ }
+{
+    let count = r.frames;
+    size - store::used(dir, 0, count)
+}
+
+fn wide(b: u8) -> u16
+    ensures { λ r. ⌜ (r ≡ b) × (r < 256) ⌝ }
+{
+    b as u16
+}
+
+// A byte of the oldest frame, or 0 past its end.
+fn oldest_byte(ram: &[u8], dir: &[u16], size: usize, count: usize, i: usize) -> u16
+    requires { ⌜ store.Sound (rxArea size) count (now ram) (now dir) × (0 < count) ⌝ }
+    ensures { λ r. ⌜ (r ≡ getD (oldest (framesOf size count (now (ram .entry)) (now (dir .entry)))) i 0) × (r < 256) ⌝ }
+{
+    let a = Area {
+        base: 0,
+        size: size,
+        first: 0,
+        slots: 768,
+    };
+    let n = (dir[0] % 2048) as usize;
+    if n <= i {
+        return 0;
+    }
+    wide(store::first_byte(ram, dir, a, count, i))
+}
+
+// What a data read gives: the word, and the registers after it.
+pub struct Got {
+    pub word: u16,
+    pub receive: Receive,
+}
+
+// A data read takes a word. With fewer than two bytes to read it is a receive failure, and while that stands it gives 0 and moves nothing.
+pub fn read_data(ram: &[u8], dir: &[u16], size: usize, r: Receive) -> Got
+    requires { ⌜ Sound size r (now ram) (now dir) ⌝ }
+    ensures { λ o. ⌜ (o .word ≡ dataWord (rxOf size r (now (ram .entry)) (now (dir .entry)))) × Step size (o .receive) (now (ram .entry)) (now (dir .entry)) (now (ram .exit)) (now (dir .exit)) (afterRead (rxOf size r (now (ram .entry)) (now (dir .entry)))) ⌝ }
+{
+    let a = r.receiver;
+    if a.failed {
+        return Got {
+            word: 0,
+            receive: r,
+        };
+    }
+    let count = r.frames;
+    let have = sound::readable_bytes(ram, dir, size, count);
+    let read = a.read;
+    let end = read + 2;
+    let mut next = r;
+    if have < end {
+        next.receiver.failed = true;
+        return Got {
+            word: 0,
+            receive: next,
+        };
+    }
+    let at = read as usize;
+    let low = oldest_byte(ram, dir, size, count, at);
+    let high = oldest_byte(ram, dir, size, count, at + 1);
+    next.receiver.read = end;
+    Got {
+        word: low + 256 * high,
+        receive: next,
+    }
+}
+
+// RX Discard: the oldest frame leaves; of an unfinished one the rest is ignored too.
+pub fn discard(ram: &mut [u8], dir: &mut [u16], size: usize, r: Receive) -> Receive
+    requires { ⌜ Sound size r (now ram) (now dir) ⌝ }
+    ensures { λ o. ⌜ Step size o (now (ram .entry)) (now (dir .entry)) (now (ram .exit)) (now (dir .exit)) (discardOf (rxOf size r (now (ram .entry)) (now (dir .entry)))) ⌝ }
+{
+    if r.receiver.failed {
+        return r;
+    }
+    let count = r.frames;
+    if count == 0 {
+        return r;
+    }
+    let a = Area {
+        base: 0,
+        size: size,
+        first: 0,
+        slots: 768,
+    };
+    let w = dir[0];
+    store::drop_first(ram, dir, a, count);
+    let rest = count - 1;
+    let mut next = r;
+    next.frames = rest;
+    next.receiver.early = false;
+    next.receiver.told = false;
+    next.receiver.read = 0;
+    if 32768 <= w {
+        next.receiver.wire = 1;
+        return next;
+    }
+    next
+}
+
+// The rest of a begun frame is ignored.
+pub fn deafen(wire: u8) -> u8
+    ensures { λ o. ⌜ o ≡ deafened wire ⌝ }
+{
+    if wire == 2 {
+        return 1;
+    }
+    wire
+}
+
+// RX Reset drops everything, turns the receiver off and restores RX Early.
+pub fn rx_reset(ram: &[u8], dir: &[u16], size: usize, r: Receive) -> Receive
+    requires { ⌜ Sound size r (now ram) (now dir) ⌝ }
+    ensures { λ o. ⌜ Step size o (now (ram .entry)) (now (dir .entry)) (now (ram .exit)) (now (dir .exit)) (rxReset (rxOf size r (now (ram .entry)) (now (dir .entry)))) ⌝ }
+{
+    let wire = deafen(r.receiver.wire);
+    let receiver = Receiver {
+        on: false,
+        failed: false,
+        early: false,
+        told: false,
+        threshold: 2044,
+        read: 0,
+        wire: wire,
+    };
+    Receive {
+        receiver: receiver,
+        frames: 0,
+    }
+}

@@ -1,3 +1,0 @@
--- Laws of words and lines, and examples.
-pub mod Lines
-pub mod Examples

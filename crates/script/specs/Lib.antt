@@ -1,2 +1,0 @@
--- The language of the bench.
-pub mod Script

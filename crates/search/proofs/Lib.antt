@@ -1,3 +1,0 @@
--- Laws that the proofs of `search` cite.
-pub mod Cards
-pub mod Examples

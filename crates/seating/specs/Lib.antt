@@ -1,2 +1,0 @@
--- What the contract of `seat` cites.
-pub mod Seat

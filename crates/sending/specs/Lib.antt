@@ -1,3 +1,0 @@
--- What the contracts of sending cite.
-pub mod Send
-pub mod Sends

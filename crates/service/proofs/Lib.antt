@@ -1,4 +1,0 @@
--- What the proofs of several functions use, and worked figures.
-pub mod Ways
-pub mod Unmoved
-pub mod Examples

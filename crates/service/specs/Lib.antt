@@ -1,3 +1,0 @@
--- What the contracts of a service cite.
-pub mod Service
-pub mod Serves

@@ -1,2 +1,0 @@
--- What the contract of a whole service cites.
-pub mod Serving

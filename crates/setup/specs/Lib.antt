@@ -1,2 +1,0 @@
--- What the contracts of the EEPROM commands cite.
-pub mod Eeprom

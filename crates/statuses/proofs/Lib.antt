@@ -1,3 +1,0 @@
--- Laws of the status stack.
-pub mod Entries
-mod Examples

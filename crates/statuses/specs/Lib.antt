@@ -1,2 +1,0 @@
--- What the contracts of the status stack cite.
-pub mod Stack

@@ -1,2 +1,0 @@
--- Why refusal 5 comes at once.
-pub mod Unfit

@@ -1,2 +1,0 @@
--- When refusal 5 comes.
-pub mod Unfit

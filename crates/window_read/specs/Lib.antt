@@ -1,2 +1,0 @@
--- What the contracts of the reads cite.
-pub mod Read

@@ -1,4 +1,0 @@
-pub mod Examples
-pub mod Split
-pub mod Tests
-pub mod Windows

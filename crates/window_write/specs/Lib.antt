@@ -1,2 +1,0 @@
--- What the contracts of the writes cite.
-pub mod Write

@@ -5,9 +5,9 @@
  * A `struct seamtrout` holds one card, its driver and its memory. seamtrout_power_on fills it;
  * after that only the calls below change it. Each call answers 0 for done, else the number of the
  * refusal (enum seamtrout_refusal); a refused call changes nothing, what the pointers lead to
- * included, save that a service out of budget keeps what it finished. A struct whose numbers make
- * no card is refused with 1. (Its bool members must hold 0 or 1, as C asks of a bool; a copy of the
- * struct by assignment or memcpy is a card of its own.)
+ * included, save that a service tells its refusal in *answer too, and out of budget keeps what it
+ * finished. A struct whose numbers make no card is refused with 1. (Its bool members must hold 0 or
+ * 1, as C asks of a bool; a copy of the struct by assignment or memcpy is a card of its own.)
  *
  * No call allocates, blocks or keeps a pointer. Two structs may be used by two threads; one struct
  * by one thread at a time. The areas that one call is given must not overlap. */
@@ -383,7 +383,9 @@ static inline int seamtrout_send(struct seamtrout *s, const uint8_t *bytes, size
 
 /* The driver's service, with at most `budget` register accesses: one report, status or frame, or idle.
  * `look` has look_n bytes, 256 or more, `frame` frame_n, 1,514 or more; a frame of up to 256 bytes
- * lands in look, a longer one in frame, and answer->bytes tells. (1, 13, 7, 5; 6 out of budget) */
+ * lands in look, a longer one in frame, and answer->bytes tells. A refusal is written to *answer too:
+ * its kind is SEAMTROUT_REFUSED, its bytes NULL, and out of budget its accesses are those used.
+ * (1, 13, 7, 5; 6 out of budget) */
 static inline int seamtrout_service(struct seamtrout *s, uint16_t budget, uint8_t *look, size_t look_n,
                                     uint8_t *frame, size_t frame_n, struct seamtrout_answer *answer)
 {
@@ -420,18 +422,20 @@ static inline int seamtrout_image_node(const uint8_t *bytes, size_t n, uint16_t 
     return 0;
 }
 
-/* Not a call: the ID states of n cards as the archive takes them. At most eight have a place; the
- * archive refuses a higher count. A card that is unsound otherwise is refused here. */
+/* Not a call: the ID states of n cards as the archive takes them. Every card is tested here, a ninth
+ * and later one too, since 1 comes before 12; at most eight have a place, and the archive refuses a
+ * higher count. */
 static inline int seamtrout_gather(struct seamtrout *const *cards, size_t n, struct seamtrout_raw_bus *bus)
 {
     size_t i;
     memset(bus, 0, sizeof *bus);
     bus->count = n;
-    for (i = 0; i < n && i < 8; i++) {
+    for (i = 0; i < n; i++) {
         const struct seamtrout *s = cards[i];
         if (seamtrout_card_seat(s->ram, s->dir, s->card, s->card.id).code)
             return SEAMTROUT_STATE_UNSOUND;
-        bus->cards[i] = s->card.id;
+        if (i < 8)
+            bus->cards[i] = s->card.id;
     }
     return 0;
 }

@@ -8,6 +8,9 @@ few lines of arithmetic that stand beside it; nothing here knows the program.
 """
 import os
 
+import bench_commands
+import bench_registers
+from bench_rows import WORDS, Rows
 from image_cases import CARD
 
 OUT = os.path.join(os.path.dirname(os.path.dirname(os.path.abspath(__file__))), 'crates', 'bench_scripts')
@@ -461,6 +464,14 @@ def eeprom():
     word(0x2A, 0xA5A5)
 
 
+def registers():
+    s = Script('registers', 'Every register of every window, and every command. Behind each line stands the reason of its answer.')
+    r = Rows(s)
+    r.row('power ' + spelled(WORDS), 'ok', 'the words 03h, 08h, 09h, 12h, 13h are of this script')
+    bench_registers.play(r)
+    bench_commands.play(r)
+
+
 def hostile():
     s = Script('hostile', 'Lines that are not understood answer what? and change nothing. A # starts a comment wherever it stands.')
     s.opened()
@@ -550,7 +561,7 @@ EXAMPLES = ('first-session', 'three-cards', 'cut-image')
 
 
 def main():
-    for make in (first_session, bench_table, id_sequence, refusals, three_cards, damaged, overrun, early, statuses, collisions, eeprom, hostile, cut_image):
+    for make in (first_session, bench_table, id_sequence, refusals, three_cards, damaged, overrun, early, statuses, collisions, eeprom, hostile, cut_image, registers):
         make()
     os.makedirs(os.path.join(OUT, 'data'), exist_ok=True)
     out = []

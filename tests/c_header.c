@@ -236,6 +236,80 @@ static void images(void)
     EXPECT(seamtrout_image_node(image, 128, address) == 0 && address[0] == 0x0012 && address[1] == 0);
 }
 
+/* More than eight cards, one of them unsound: 1 comes before 12, wherever the card stands, and nothing changes. */
+static void nine(void)
+{
+    static struct seamtrout s[9], before[9];
+    struct seamtrout *at[9];
+    uint64_t found[7] = {77};
+    size_t n = 77, accesses = 77, i;
+    uint16_t words[64];
+    words_of(words);
+    for (i = 0; i < 9; i++) {
+        seamtrout_power_on(&s[i], words);
+        at[i] = &s[i];
+    }
+    for (i = 0; i < 9; i++) {
+        s[i].card.id.tag = 8; /* a tag has three bits */
+        memcpy(before, s, sizeof s);
+        EXPECT(seamtrout_search(at, 9, 0x100, found, &n, &accesses) == SEAMTROUT_STATE_UNSOUND);
+        EXPECT(seamtrout_search(at, 9, 0x200, found, &n, &accesses) == SEAMTROUT_STATE_UNSOUND);
+        EXPECT(seamtrout_activate(at, 9, 0x100, 1, 4, &accesses) == SEAMTROUT_STATE_UNSOUND);
+        EXPECT(seamtrout_activate(at, 9, 0x100, 8, 32, &accesses) == SEAMTROUT_STATE_UNSOUND);
+        EXPECT(memcmp(before, s, sizeof s) == 0);
+        s[i].card.id.tag = 0;
+    }
+    s[8].card.receive.frames = 1; /* the ID state is sound, the card is not */
+    EXPECT(seamtrout_search(at, 9, 0x100, found, &n, &accesses) == SEAMTROUT_STATE_UNSOUND);
+    EXPECT(seamtrout_activate(at, 9, 0x100, 1, 4, &accesses) == SEAMTROUT_STATE_UNSOUND);
+    EXPECT(seamtrout_search(at, 8, 0x200, found, &n, &accesses) == SEAMTROUT_ARGUMENT_OUTSIDE); /* it is not among the eight */
+    s[8].card.receive.frames = 0;
+    memcpy(before, s, sizeof s);
+    EXPECT(seamtrout_search(at, 9, 0x100, found, &n, &accesses) == SEAMTROUT_ARGUMENT_OUTSIDE);
+    EXPECT(seamtrout_activate(at, 9, 0x100, 1, 4, &accesses) == SEAMTROUT_ARGUMENT_OUTSIDE);
+    EXPECT(memcmp(before, s, sizeof s) == 0 && found[0] == 77 && n == 77 && accesses == 77);
+}
+
+/* A refused service tells its number in the answer too, and changes nothing else; out of budget it tells the accesses used. */
+static void refused_service(void)
+{
+    static struct seamtrout s, before;
+    static uint8_t look[256], area[1514], bytes[1514];
+    struct seamtrout_answer a;
+    uint16_t words[64];
+    words_of(words);
+    memset(look, 0x5A, sizeof look);
+    memset(area, 0x5A, sizeof area);
+    memset(bytes, 0x5A, sizeof bytes);
+    seamtrout_power_on(&s, words);
+    before = s;
+    a.kind = SEAMTROUT_FRAME;
+    a.bytes = look;
+    EXPECT(seamtrout_service(&s, 9, look, 256, area, 1514, &a) == SEAMTROUT_NEVER_OPENED && a.kind == SEAMTROUT_REFUSED && a.bytes == NULL);
+    EXPECT(memcmp(&before, &s, sizeof s) == 0);
+    wake(&s, 0x110);
+    EXPECT(seamtrout_id_write(&s, 0x110, 0xFF) == 0 && seamtrout_open(&s, node[0], node[1], node[2]) == 0);
+    EXPECT(seamtrout_write_word(&s, 0x0E, 16 << 11 | 8) == 0);
+    frame_in(&s, bytes, 60, false);
+    frame_in(&s, bytes, 60, true);
+    before = s;
+    a.kind = SEAMTROUT_FRAME;
+    a.bytes = look;
+    EXPECT(seamtrout_service(&s, 9, look, 255, area, 1514, &a) == SEAMTROUT_AREA_SHORT && a.kind == SEAMTROUT_REFUSED && a.bytes == NULL);
+    EXPECT(memcmp(&before, &s, sizeof s) == 0);
+    a.kind = SEAMTROUT_FRAME;
+    a.bytes = look;
+    EXPECT(seamtrout_service(&s, 35, look, 256, area, 1514, &a) == SEAMTROUT_BUDGET_SHORT && a.kind == SEAMTROUT_REFUSED && a.bytes == NULL);
+    EXPECT(a.accesses == 5 && word_at(&s, 0x08) == 0x003C); /* the damaged frame was dropped: 3, and Status, RX Status of the good one */
+    EXPECT(memcmp(look, bytes, 256) == 0 && memcmp(area, bytes, 1514) == 0);
+    EXPECT(seamtrout_write_word(&s, 0x0E, 1 << 11 | 4) == 0);
+    before = s;
+    a.kind = SEAMTROUT_FRAME;
+    a.bytes = look;
+    EXPECT(seamtrout_service(&s, 9, look, 256, area, 1514, &a) == SEAMTROUT_CARD_UNFIT && a.kind == SEAMTROUT_REFUSED && a.bytes == NULL);
+    EXPECT(memcmp(&before, &s, sizeof s) == 0 && memcmp(look, bytes, 256) == 0 && memcmp(area, bytes, 1514) == 0);
+}
+
 static void unsound(void)
 {
     static struct seamtrout s, before;
@@ -267,6 +341,8 @@ int main(void)
     driver();
     ports();
     images();
+    nine();
+    refused_service();
     unsound();
     printf("header: %u checks hold\n", checks);
     return 0;

@@ -241,9 +241,20 @@ impl Seamtrout {
         let r = unsafe { raw::seamtrout_card_seat(&self.ram, &self.dir, self.card, i) };
         self.done(r)
     }
+
+    // 1 if the card is unsound: what a seat of its own ID state answers.
+    fn sound(&self) -> Result<(), u8> {
+        let r = unsafe { raw::seamtrout_card_seat(&self.ram, &self.dir, self.card, self.card.id) };
+        if r.code != 0 {
+            return Err(r.code);
+        }
+        Ok(())
+    }
 }
 
-fn gather(cards: &mut [Seamtrout]) -> Result<Bus, u8> {
+// The cards' ID states as the archive takes them. Every card is tested, a ninth and later one too,
+// since 1 comes before 12; at most eight have a place, and the archive refuses a higher count.
+fn gather(cards: &[Seamtrout]) -> Result<Bus, u8> {
     let none = Id {
         command: false,
         port: 16,
@@ -256,8 +267,10 @@ fn gather(cards: &mut [Seamtrout]) -> Result<Bus, u8> {
         words: [0; 64],
     };
     let mut bus = Bus { cards: [none; 8], count: cards.len() };
+    for card in cards {
+        card.sound()?;
+    }
     for (place, card) in bus.cards.iter_mut().zip(cards) {
-        card.seat(card.card.id)?;
         *place = card.card.id;
     }
     Ok(bus)

@@ -691,5 +691,16 @@ fn unsound_cards() {
         assert_eq!(seamtrout::activate(std::slice::from_mut(&mut c), 99, 9, 99), Err(1));
         assert_eq!(c.card(), &card);
         assert_eq!(c.memory(), (ram, dir));
+        // Among nine, wherever it stands: 1 comes before 12.
+        for place in 0..9 {
+            let mut nine = vec![good.clone(); 9];
+            nine[place] = c.clone();
+            assert_eq!(seamtrout::search(&mut nine, PORT), Err(1));
+            assert_eq!(seamtrout::activate(&mut nine, PORT, 1, 0), Err(1));
+            for (i, x) in nine.iter().enumerate() {
+                assert_eq!(x.card(), if i == place { &card } else { good.card() });
+            }
+        }
     }
+    assert_eq!(seamtrout::search(&mut vec![good.clone(); 9], PORT), Err(12));
 }

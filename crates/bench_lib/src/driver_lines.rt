@@ -1,10 +1,7 @@
 // The driver's calls.
-use crate::state;
-use crate::state::Bench;
-use crate::state::Stepped;
-use bench_rules::Kind;
-use bench_rules::Line;
 use bench_rules::Reply;
+use bench_state::Bench;
+use bench_state::Stepped;
 use driver_rules::Answer;
 use driver_rules::OpenAnswer;
 use driver_rules::SendAnswer;
@@ -12,11 +9,11 @@ use driver_rules::SendAnswer;
 fn open_reply(a: OpenAnswer) -> Reply {
     match a {
         OpenAnswer::Done => Reply::Ok,
-        OpenAnswer::Refused(why) => state::refused(why),
+        OpenAnswer::Refused(why) => bench_state::refused(why),
     }
 }
 
-fn open(
+pub fn open(
     ram: &mut [u8; 8192],
     dir: &mut [u16; 1110],
     text: &mut [u8; 4096],
@@ -31,24 +28,18 @@ fn open(
     let after = got.card;
     let drive = got.driver;
     let answer = got.answer;
-    let joined = b.joined;
-    let next = Bench {
-        card: after,
-        driver: drive,
-        joined: joined,
-        others: b.others,
-    };
-    state::plain(text, next, open_reply(answer))
+    let next = bench_state::with_driver(b, after, drive);
+    bench_state::plain(text, next, open_reply(answer))
 }
 
 fn send_reply(a: SendAnswer) -> Reply {
     match a {
         SendAnswer::Ticket(n) => Reply::Ticket(n),
-        SendAnswer::Refused(why) => state::refused(why),
+        SendAnswer::Refused(why) => bench_state::refused(why),
     }
 }
 
-fn send(
+pub fn send(
     ram: &mut [u8; 8192],
     dir: &mut [u16; 1110],
     text: &mut [u8; 4096],
@@ -61,14 +52,8 @@ fn send(
     let after = got.card;
     let drive = got.driver;
     let answer = got.answer;
-    let joined = b.joined;
-    let next = Bench {
-        card: after,
-        driver: drive,
-        joined: joined,
-        others: b.others,
-    };
-    state::plain(text, next, send_reply(answer))
+    let next = bench_state::with_driver(b, after, drive);
+    bench_state::plain(text, next, send_reply(answer))
 }
 
 // What a service answers; short of budget it tells the accesses used.
@@ -104,7 +89,7 @@ fn frame_bytes(a: Answer) -> usize {
     }
 }
 
-fn service(
+pub fn service(
     ram: &mut [u8; 8192],
     dir: &mut [u16; 1110],
     text: &mut [u8; 4096],
@@ -120,35 +105,12 @@ fn service(
     let drive = got.driver;
     let answer = got.answer;
     let used = got.used;
-    let joined = b.joined;
-    let next = Bench {
-        card: after,
-        driver: drive,
-        joined: joined,
-        others: b.others,
-    };
+    let next = bench_state::with_driver(b, after, drive);
     let n = frame_bytes(answer);
     let up = driver::hand_up(&ahead, &frame, n);
     let len = answers::say(text, service_reply(answer, used), up, [0; 7]);
     Stepped {
         bench: next,
         len: len,
-    }
-}
-
-// What a line asks of the driver; `session::act` hands over no other kind.
-pub fn act(
-    ram: &mut [u8; 8192],
-    dir: &mut [u16; 1110],
-    text: &mut [u8; 4096],
-    b: Bench,
-    asked: Line,
-    bytes: &[u8],
-) -> Stepped {
-    let kind = asked.kind;
-    match kind {
-        Kind::Open => open(ram, dir, text, b, asked.a, asked.b, asked.c),
-        Kind::Send => send(ram, dir, text, b, bytes),
-        _ => service(ram, dir, text, b, asked.a),
     }
 }

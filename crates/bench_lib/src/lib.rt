@@ -1,14 +1,12 @@
 // Plays a script: input is read in pieces, and each line is answered as soon as it is whole.
-use crate::state::Bench;
+use bench_state::Bench;
+use bench_state::lines;
 use libc::STDOUT_FILENO;
 
-mod cards; // cards.rt: a new card, and another on the ID port
 mod driver_lines; // driver_lines.rt: the driver's calls
 mod host_lines; // host_lines.rt: the host's accesses
-mod lines; // lines.rt: lines in pieces of input: where a line ends, how it grows, how long it is
 mod port_lines; // port_lines.rt: the ID port
 mod session; // session.rt: one line of a script
-mod state; // state.rt: the bench's state: what a script works on, and how a line leaves it
 mod wire_lines; // wire_lines.rt: what the wire does: a frame that comes, and the outcome of a packet that goes
 
 // The state between two pieces: the bench, and how many characters of an unfinished line stand in the line's room; 8,194 for too many.
@@ -55,14 +53,14 @@ fn feed(
     let mut count = p.count;
     let mut at: usize = 0;
     while at < piece.len() {
-        let end = lines::until(piece, at);
+        let end = bytes::scan::find(piece, at, piece.len(), b'\n');
         count = lines::append(line, count, &piece[at..end]);
         if end >= piece.len() {
             break;
         }
         bench = answered(ram, dir, line, bench, count);
         count = 0;
-        at = lines::past(piece, end);
+        at = end + 1;
     }
     Playing {
         bench: bench,
@@ -115,7 +113,7 @@ pub fn play(fd: i32) {
     let mut dir = [0u16; 1110];
     let mut line = [0u8; 8193];
     let mut p = Playing {
-        bench: state::powered([0; 64]),
+        bench: bench_state::powered([0; 64]),
         count: 0,
     };
     let mut turns = u64::MAX;

@@ -1,10 +1,7 @@
 // The ID port. The bench's own card stands first on it, the joined ones behind it.
-use crate::state;
-use crate::state::Bench;
-use crate::state::Stepped;
-use bench_rules::Kind;
-use bench_rules::Line;
 use bench_rules::Reply;
+use bench_state::Bench;
+use bench_state::Stepped;
 use port_rules::Activation;
 use port_rules::Bit;
 use port_rules::Bus;
@@ -77,7 +74,7 @@ fn back(ram: &mut [u8; 8192], dir: &mut [u16; 1110], b: Bench, after: Bus) -> Be
     }
 }
 
-fn write(
+pub fn write(
     ram: &mut [u8; 8192],
     dir: &mut [u16; 1110],
     text: &mut [u8; 4096],
@@ -89,12 +86,12 @@ fn write(
     let after = got.bus;
     let answer = got.answer;
     match answer {
-        Wrote::Done => state::plain(text, back(ram, dir, b, after), Reply::Ok),
-        Wrote::Refused(why) => state::plain(text, b, state::refused(why)),
+        Wrote::Done => bench_state::plain(text, back(ram, dir, b, after), Reply::Ok),
+        Wrote::Refused(why) => bench_state::plain(text, b, bench_state::refused(why)),
     }
 }
 
-fn read(
+pub fn read(
     ram: &mut [u8; 8192],
     dir: &mut [u16; 1110],
     text: &mut [u8; 4096],
@@ -105,8 +102,8 @@ fn read(
     let after = got.bus;
     let answer = got.answer;
     match answer {
-        Bit::Value(v) => state::plain(text, back(ram, dir, b, after), Reply::Bit(v)),
-        Bit::Refused(why) => state::plain(text, b, state::refused(why)),
+        Bit::Value(v) => bench_state::plain(text, back(ram, dir, b, after), Reply::Bit(v)),
+        Bit::Refused(why) => bench_state::plain(text, b, bench_state::refused(why)),
     }
 }
 
@@ -117,7 +114,7 @@ fn listed(text: &mut [u8; 4096], b: Bench, reply: Reply, addresses: [u64; 7]) ->
     Stepped { bench: b, len: len }
 }
 
-fn find(
+pub fn find(
     ram: &mut [u8; 8192],
     dir: &mut [u16; 1110],
     text: &mut [u8; 4096],
@@ -135,7 +132,7 @@ fn find(
             Reply::Found(count, accesses),
             addresses,
         ),
-        Found::Refused(why) => state::plain(text, b, state::refused(why)),
+        Found::Refused(why) => bench_state::plain(text, b, bench_state::refused(why)),
     }
 }
 
@@ -147,7 +144,7 @@ fn narrowed(v: u16) -> u8 {
     (v % 256) as u8
 }
 
-fn activate(
+pub fn activate(
     ram: &mut [u8; 8192],
     dir: &mut [u16; 1110],
     text: &mut [u8; 4096],
@@ -160,24 +157,11 @@ fn activate(
     let after = got.bus;
     let answer = got.answer;
     match answer {
-        Activation::Done { accesses: _ } => state::plain(text, back(ram, dir, b, after), Reply::Ok),
-        Activation::Refused(why) => state::plain(text, b, state::refused(why)),
-    }
-}
-
-// What a line asks at the ID port; `session::act` hands over no other kind.
-pub fn act(
-    ram: &mut [u8; 8192],
-    dir: &mut [u16; 1110],
-    text: &mut [u8; 4096],
-    b: Bench,
-    asked: Line,
-) -> Stepped {
-    let kind = asked.kind;
-    match kind {
-        Kind::IdWrite => write(ram, dir, text, b, asked.a, asked.b),
-        Kind::IdRead => read(ram, dir, text, b, asked.a),
-        Kind::Search => find(ram, dir, text, b, asked.a),
-        _ => activate(ram, dir, text, b, asked.a, asked.b, asked.c),
+        Activation::Done { accesses: _ } => bench_state::plain(
+            text,
+            back(ram, dir, b, after),
+            Reply::Ok,
+        ),
+        Activation::Refused(why) => bench_state::plain(text, b, bench_state::refused(why)),
     }
 }

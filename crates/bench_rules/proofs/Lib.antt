@@ -1,8 +1,11 @@
--- The bench's text: numbers and bytes as text, which line of a script asks for what, the answers as lines.
-pub mod AnswersExamples
+-- Laws and worked examples.
+-- numbers and bytes as text
 pub mod HexExamples
-pub mod Lines
 pub mod Placed
-pub mod ScriptExamples
 pub mod Spelling
+-- answers as lines
 pub mod Spoken
+pub mod AnswersExamples
+-- the language of a script
+pub mod Lines
+pub mod ScriptExamples

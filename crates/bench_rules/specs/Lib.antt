@@ -1,4 +1,7 @@
 -- The bench's text: numbers and bytes as text, which line of a script asks for what, the answers as lines.
-pub mod Answers
-pub mod Script
+-- numbers and bytes as text
 pub mod Text
+-- answers as lines
+pub mod Answers
+-- the language of a script
+pub mod Script

@@ -12,7 +12,7 @@ use Rattle.port_rules.proofs.Chain.{the-sequence}
 use Rattle.port_rules.specs.Search.{idBytes}
 use Rattle.found.proofs.Found.{costs-so}
 use Rattle.port_rules.specs.declared.IdState.{IdState}
-use Rattle.receive_rules.specs.Frame.{whole, Frame, isComing, overran, room}
+use Rattle.receive_rules.specs.Frame.{Frame, isComing, overran, room}
 use Rattle.receive_rules.specs.Wire as wire
 use Rattle.receive_rules.specs.Wire.{passes, begins, marked, ending, ends, fresh}
 use Rattle.receive_rules.specs.Reading as reading
@@ -44,11 +44,11 @@ use Rattle.driver_rules.specs.Items.{idleTalk, fetchTalk}
 use Rattle.driver_rules.specs.Areas.{inLook, inFrame}
 use Rattle.driver_rules.specs.Service.{lookTalk}
 use Rattle.driver_rules.specs.Calls.{openCall, serviceCall}
-use Rattle.driver_rules.specs.Paper.{Paper, frame, idle}
-use Rattle.runs.specs.Run.{Bench, soundBench, Event, Start, Byte, End, Service, Said, opens, serves, next, said, after}
+use Rattle.driver_rules.specs.Paper.{frame, idle}
+use Rattle.runs.specs.Run.{Bench, soundBench, Start, Byte, End, opens, serves, next, said, after}
 use Rattle.runs.proofs.Kept.{after-sound}
 use Rattle.runs.proofs.Append.{after-append}
-use Rattle.sends_carried.specs.Rooms.{active, Rows}
+use Rattle.sends_carried.specs.Rooms.{active}
 use Rattle.sends_carried.proofs.Rooms.{rows}
 use Rattle.frames_carried.specs.Bytes.{octets}
 use Rattle.frames_carried.specs.Carried.{Waiting}

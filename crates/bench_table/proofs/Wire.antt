@@ -1,29 +1,25 @@
 -- A frame that comes on the wire changes the receive store alone, of all that the driver looks at. Assumes nothing.
-use mathlib.Core.Path.{_≡_, refl, ap, _∙_, subst, subst⁻¹}
+use mathlib.Core.Path.{_≡_, refl, ap, _∙_, subst⁻¹}
 use mathlib.Core.Bool.{Bool, true, false, cond, _&&_}
 use mathlib.Core.List.{List, [], _∷_, _++_, map, append-assoc, append-nil}
-use Prim.Native.Nat.{ℕ, _+_, _≤_, _<_}
+use Prim.Native.Nat.{ℕ, _+_, _≤_}
 use native.Mathlib.Omega.{arith}
 use lib.ListN.{length, length-append}
 use lib.Dec.{eqb}
-use Rattle.bits.proofs.Tests.{of-cond}
 use Rattle.store.specs.Store.{atNewest, round4}
 use Rattle.store.proofs.Laws.{at-snoc}
-use Rattle.port_rules.specs.declared.IdState.{IdState}
-use Rattle.receive_rules.specs.Frame.{Frame, Rx, room}
+use Rattle.receive_rules.specs.Frame.{Frame, room}
 use Rattle.receive_rules.specs.Wire as wires
 use Rattle.receive_rules.specs.Wire.{begins, fresh, ends, fits8}
 use Rattle.receive_rules.specs.Early.{settleEarly}
 use Rattle.receive_rules.proofs.Whole.{Storing, start-stored}
-use Rattle.transmit_rules.specs.Queue.{Queue}
-use Rattle.card_rules.specs.declared.Select.{Select}
 use Rattle.card_rules.specs.Adapter.{Adapter}
+use Rattle.card_rules.specs.Update.{withRx}
 use Rattle.card_rules.specs.Room.{rxRoom}
 use Rattle.card_rules.specs.Settle.{settle}
 use Rattle.card_rules.specs.Event as card
 use Rattle.card_rules.specs.Calls.{onWire, offWire}
-use Rattle.driver_rules.specs.declared.Driver.{Driver}
-use Rattle.runs.specs.Run.{Bench, withAdapter, Event, Start, Byte, End, wire, taken, next, after}
+use Rattle.runs.specs.Run.{Bench, withAdapter, Start, Byte, End, wire, taken, next, after}
 use Rattle.frames_carried.proofs.One.{On, byte-on}
 
 -- what a frame on the wire leaves as it was
@@ -57,7 +53,7 @@ same-taken true a b s = s
 same-taken false a b s = itself b
 
 same-begins : (t : Bool) (first : List ℕ) (b : Bench) →
-    Same (withAdapter (settle (record { id = b .adapter .id; select = b .adapter .select; lines = b .adapter .lines; config = b .adapter .config; prom = b .adapter .prom; rx = begins t first (b .adapter .rx); tx = b .adapter .tx })) b) b
+    Same (withAdapter (settle (withRx (begins t first (b .adapter .rx)) (b .adapter))) b) b
 unfolding settle begins
 same-begins true first b = record { id = refl; select = refl; failed = refl; read = refl; queue = refl; statuses = refl; driver = refl }
 same-begins false first b = record { id = refl; select = refl; failed = refl; read = refl; queue = refl; statuses = refl; driver = refl }

@@ -1,7 +1,7 @@
 // Bits, bytes and words of numbers.
 ghost use mathlib.Core.Path.{_≡_};
 ghost use Prim.Native.Nat.{_+_, _*_, _≤_, _<_};
-ghost use Rattle.bits.specs.Bits.{weigh};
+ghost use Rattle.bits.specs.Bits.{has as hasOf, weigh};
 
 // A byte as a word.
 pub fn wide(b: u8) -> u16
@@ -22,4 +22,12 @@ pub fn weight_if(weight: u16, flag: bool) -> u16
     ensures { λ r. ⌜ (r ≡ weigh weight flag) × (r ≤ weight) ⌝ }
 {
     if flag { weight } else { 0 }
+}
+
+// Whether the bit of a weight 1, 2, 4, .. is set in a word.
+pub fn has(word: u16, weight: u16) -> bool
+    requires { ⌜ 0 < weight ⌝ }
+    ensures { λ r. ⌜ r ≡ hasOf weight word ⌝ }
+{
+    word / weight % 2 == 1
 }

@@ -131,7 +131,7 @@ pub fn wire_start(ram: &mut [u8; 8192], dir: &mut [u16; 1110], c: Card, first: [
             answer: Done::Refused(Refusal::OutOfTurn),
         };
     }
-    let card = steps::start(ram, dir, c, first);
+    let card = steps::wire_start(ram, dir, c, first);
     AfterCall {
         card: card,
         answer: Done::Done,
@@ -154,7 +154,7 @@ pub fn wire_byte(ram: &mut [u8; 8192], dir: &mut [u16; 1110], c: Card, b: u8) ->
             answer: Done::Refused(Refusal::OutOfTurn),
         };
     }
-    let card = steps::byte(ram, dir, c, b);
+    let card = steps::wire_byte(ram, dir, c, b);
     AfterCall {
         card: card,
         answer: Done::Done,
@@ -183,7 +183,7 @@ pub fn wire_end(
             answer: Done::Refused(Refusal::OutOfTurn),
         };
     }
-    let card = steps::end(ram, dir, c, check, alignment);
+    let card = steps::wire_end(ram, dir, c, check, alignment);
     AfterCall {
         card: card,
         answer: Done::Done,
@@ -212,7 +212,7 @@ pub fn success(
             answer: Told::Refused(Refusal::OutOfTurn),
         };
     }
-    let gone = steps::sent(ram, dir, c, out);
+    let gone = steps::success(ram, dir, c, out);
     let card = gone.card;
     let n = gone.n;
     AfterSuccess {
@@ -237,7 +237,7 @@ pub fn collisions(ram: &mut [u8; 8192], dir: &mut [u16; 1110], c: Card) -> After
             answer: Done::Refused(Refusal::OutOfTurn),
         };
     }
-    let card = steps::collided(ram, dir, c);
+    let card = steps::collisions(ram, dir, c);
     AfterCall {
         card: card,
         answer: Done::Done,

@@ -1,6 +1,6 @@
 -- Sides that hold nothing, whatever the memory holds. Assumes nothing.
-use mathlib.Core.Path.{_≡_, refl, subst}
-use mathlib.Core.List.{List, []}
+use mathlib.Core.Path.{_≡_, subst}
+use mathlib.Core.List.{List}
 use mathlib.Core.Bool.{false}
 use Prim.Native.Nat.{ℕ, _%_}
 use native.Mathlib.Omega.{arith}
@@ -10,32 +10,21 @@ use Rattle.store.specs.Store.{frames, roomOf}
 use Rattle.port_rules.specs.declared.IdState.{IdState}
 use Rattle.port_rules.specs.Card.{idFresh}
 use Rattle.receive_rules.specs.Reading.{deafened}
-use Rattle.receive_rules.specs.View.{framesOf, rxArea}
-use Rattle.transmit_rules.specs.declared.Fifo.{Fifo}
+use Rattle.receive_rules.specs.View.{rxArea}
 use Rattle.transmit_rules.specs.Queue.{empty}
-use Rattle.transmit_rules.specs.QueueView.{queueOf, partOf, txArea}
+use Rattle.transmit_rules.specs.QueueView.{partOf, txArea}
 use Rattle.transmit_rules.specs.declared.Outcomes.{Outcomes}
 use Rattle.transmit_rules.specs.Outcome.{atPowerOn}
 use Rattle.transmit_rules.specs.OutcomesView.{Reported}
+use Rattle.transmit_rules.proofs.Steps.{emptied}
 use Rattle.card_rules.specs.declared.Card.{Card}
+use Rattle.card_rules.specs.Update.{withId, withTx}
 use Rattle.card_rules.specs.Room.{rxSize, txSize}
 use Rattle.card_rules.specs.Power.{quietRx, powerOn, reset}
 use Rattle.card_rules.specs.View.{view, Is, Blank, Does}
 use Rattle.card_rules.proofs.Ranges.{rx-small, tx-small}
 
--- no frames, and an empty FIFO
-pub no-frames : (size : ℕ) (ram dir : List ℕ) → framesOf size 0 ram dir ≡ []
-unfolding frames
-no-frames size ram dir = refl
-
-abbrev pub emptied : Fifo
-emptied = record { failed = false; packets = 0; words = 0 }
-
-pub no-packets : (size : ℕ) (ram dir : List ℕ) → queueOf size emptied ram dir ≡ empty
-unfolding frames partOf
-no-packets size ram dir = refl
-
--- they lie in their areas, whatever their sizes
+-- no frames, and no packets, lie in their areas, whatever their sizes
 module _ (split : ℕ) (ram dir : List ℕ) (r : length ram ≡ 8192) (d : length dir ≡ 1110) where
   pub frames-packed : store.Sound (rxArea (rxSize split)) 0 ram dir
   unfolding roomOf
@@ -49,7 +38,8 @@ module _ (split : ℕ) (ram dir : List ℕ) (r : length ram ≡ 8192) (d : lengt
       record
       { in-ram = omega (arith, tx-small split); in-dir = omega arith; few = omega arith; small = omega arith; room = omega arith }
 
-abbrev started : List ℕ → ℕ → IdState → Outcomes → Card
+-- the card that power-on makes
+abbrev pub started : List ℕ → ℕ → IdState → Outcomes → Card
 started words wire i o =
     record {
       id = i;
@@ -69,23 +59,14 @@ started words wire i o =
       transmit = record { fifo = emptied; outcomes = o };
     }
 
--- the card that power-on makes is the adapter at power-on
+-- it is the adapter at power-on
 pub started-blank : (words : List ℕ) (wire : ℕ) (i : IdState) (o : Outcomes) → i ≡ idFresh words → Reported o atPowerOn
     → Blank (started words wire i o) (powerOn words wire)
 unfolding view powerOn frames partOf
 started-blank words wire i o e p ram dir r d =
     record {
       shows =
-          λ j.
-          record {
-            id = e j;
-            select = powerOn words wire .select;
-            lines = powerOn words wire .lines;
-            config = powerOn words wire .config;
-            prom = powerOn words wire .prom;
-            rx = quietRx wire;
-            tx = record { queue = empty; reports = p .tells j };
-          };
+          λ j. withId (e j) (withTx (record { queue = empty; reports = p .tells j }) (powerOn words wire));
       held =
           record {
             ram-long = r;

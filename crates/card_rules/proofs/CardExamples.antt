@@ -1,7 +1,7 @@
 -- Worked examples of refusal 1, by computing; those of the others stand in `CardTestsExamples`. Assumes nothing.
 use mathlib.Core.Path.{_≡_, refl}
 use mathlib.Core.Bool.{true, false}
-use mathlib.Core.List.{[]}
+use mathlib.Core.List.{List, []}
 use Prim.Native.Nat.{ℕ}
 use lib.ListN.{replicate}
 use Rattle.port_rules.specs.Card.{idFresh}
@@ -13,34 +13,27 @@ use Rattle.receive_rules.specs.View as rx
 use Rattle.transmit_rules.specs.Queue as queue
 use Rattle.transmit_rules.specs.QueueSound.{allSized}
 use Rattle.transmit_rules.specs.QueueView as fifo
-use Rattle.transmit_rules.specs.Outcome.{due, some}
+use Rattle.transmit_rules.specs.Outcome.{atPowerOn, due, some}
 use Rattle.transmit_rules.specs.OutcomesView.{soundOutcomes}
 use Rattle.receive_rules.specs.Reading.{complete}
 use Rattle.receive_rules.specs.Frame.{room}
 use Rattle.transmit_rules.specs.View as tx
 use Rattle.card_rules.specs.declared.Card.{Card}
+use Rattle.card_rules.specs.Update.{selectWindow}
+use Rattle.card_rules.specs.Groups.{cardSelect}
 use Rattle.card_rules.specs.Room.{rxSize, txSize}
 use Rattle.card_rules.specs.Status.{interrupting}
 use Rattle.card_rules.specs.Sound.{selectSound}
 use Rattle.card_rules.specs.View.{view, soundCard}
-use Rattle.card_rules.specs.Calls.{Reply, refused, done, value, replying, judged, isWord}
+use Rattle.card_rules.specs.Calls.{refused, done, replying, judged, isWord}
+use Rattle.card_rules.proofs.Blank.{started}
 
 -- a card at power-on but for its window; its memory matters to no frame and no packet
 inWindow : ℕ → Card
 inWindow w =
-    record {
-      id = idFresh (replicate 64 0);
-      select = record { window = w; mask = 0; zero = 0; filter = 0 };
-      lines = record { latch = false; requested = false; low = 0 };
-      config = record { product = 0; resource = 0; enabled = false; first = 0; second = 0; station = replicate 6 0 };
-      prom = record { last = 0; writable = false };
-      receive = record { receiver = record { on = false; failed = false; early = false; told = false; threshold = 2044; read = 0; wire = 0 }; frames = 0 };
-      transmit =
-          record {
-            fifo = record { failed = false; packets = 0; words = 0 };
-            outcomes = record { sender = record { on = false; available = false; level = 2044; start = 2044 }; statuses = record { entries = replicate 31 0; count = 0 } };
-          };
-    }
+    let words : List ℕ = replicate 64 0 in
+    let c = started words 0 (idFresh words) (record { sender = atPowerOn .sender; statuses = record { entries = replicate 31 0; count = 0 } }) in
+    cardSelect (selectWindow w (c .select)) c
 
 -- 1: there is no window 8
 sound-in-1 : soundCard (inWindow 1) [] [] ≡ true

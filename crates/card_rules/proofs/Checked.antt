@@ -1,6 +1,6 @@
 -- The test of soundness that a call makes is true where, and only where, the card is sound. Assumes nothing.
-use mathlib.Core.Path.{_≡_, refl, sym, ap, _∙_}
-use mathlib.Core.Bool.{Bool, true, false, not, _&&_, _||_}
+use mathlib.Core.Path.{_≡_, sym, ap, _∙_}
+use mathlib.Core.Bool.{Bool, true, false, not, _&&_, _||_, and-true}
 use mathlib.Core.List.{List}
 use Prim.Native.Nat.{ℕ, _%_}
 use native.Mathlib.Omega.{arith}
@@ -20,10 +20,6 @@ use Rattle.card_rules.specs.View.{rxSizeOf, txSizeOf, view, Held, Sound,
 use Rattle.card_rules.proofs.Ranges.{rx-small, tx-small}
 use Rattle.card_rules.proofs.Quiet.{latch-quiet}
 use Rattle.card_rules.proofs.Sides.{registers-of, latch-of, sound-by, rx-sound, tx-sound}
-
-with-true : (b : Bool) → (b && true) ≡ b
-with-true true = refl
-with-true false = refl
 
 module _ (c : Card) (ram dir : List ℕ) where
   abbrev rxTest : Bool
@@ -68,7 +64,7 @@ module _ (c : Card) (ram dir : List ℕ) where
   unfolding soundCard view
   short-test id select x y ei es q =
       let l : latchSettled (view c ram dir) ≡ true = latch-quiet (c .lines .latch) (c .select) (flags (view c ram dir)) q in
-      rw (x, y, l, ei, es) (sym (with-true (idSound (c .id) && (not (c .id .due) && selectSound (c .select)))))
+      rw (x, y, l, ei, es) (sym (and-true (idSound (c .id) && (not (c .id .due) && selectSound (c .select)))))
 
   pub last-test : (f : Flags) (id select interrupts : Bool) → rxTest ≡ true → txTest ≡ true → f ≡ flags (view c ram dir) → id ≡ idSound (c .id) → select ≡ selectSound (c .select)
       → interrupts ≡ interrupting (c .select) f

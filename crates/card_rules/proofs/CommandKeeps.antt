@@ -29,8 +29,8 @@ use Rattle.card_rules.specs.Update.{withId, withSelect, withRx, withTx, 
 use Rattle.card_rules.specs.Room.{rxRoom, txRoom}
 use Rattle.card_rules.specs.Power.{powerOn, reset, quietRx, quietTx}
 use Rattle.card_rules.specs.Sound.{isMask, selectSound, kept, sound}
-use Rattle.card_rules.proofs.Sides.{rx-of, tx-of, registers-of, kept-by, kept-of, rx-kept, tx-kept, registers-kept}
-use Rattle.card_rules.specs.Command.{reported, receiving, rxReset, txReset, acknowledge, mask, act, discard, command, commanded}
+use Rattle.card_rules.proofs.Sides.{rx-of, tx-of, registers-of, kept-by, kept-of, rx-kept, tx-kept, registers-kept, identified, idle, selected}
+use Rattle.card_rules.specs.Command.{reported, receiving, rxReset, acknowledge, mask, act, command, commanded}
 
 -- what is kept, as a fact that a chain of tests passes on
 pub record Keeping (b : Adapter) : Type 0 where
@@ -71,20 +71,11 @@ module _ (a : Adapter) (s : sound a ≡ true) where
   k : kept a ≡ true
   k = kept-of a s
 
-  selected : selectSound (a .select) ≡ true
-  selected = both (not (a .id .due)) (selectSound (a .select)) (both (idSound (a .id)) (not (a .id .due) && selectSound (a .select)) (registers-of a s) .1) .1
-
-  idle : not (a .id .due) ≡ true
-  idle = both (not (a .id .due)) (selectSound (a .select)) (both (idSound (a .id)) (not (a .id .due) && selectSound (a .select)) (registers-of a s) .1) .0
-
-  identified : idSound (a .id) ≡ true
-  identified = both (idSound (a .id)) (not (a .id .due) && selectSound (a .select)) (registers-of a s) .0
-
   pub select-kept : (v : Select) → selectSound v ≡ true → kept (withSelect v a) ≡ true
-  select-kept v h = kept-by (withSelect v a) (rx-kept a k) (tx-kept a k) (join (idSound (a .id)) (not (a .id .due) && selectSound v) identified (join (not (a .id .due)) (selectSound v) idle h))
+  select-kept v h = kept-by (withSelect v a) (rx-kept a k) (tx-kept a k) (join (idSound (a .id)) (not (a .id .due) && selectSound v) (identified a s) (join (not (a .id .due)) (selectSound v) (idle a s) h))
 
   pub id-kept : (v : IdState) → idSound v ≡ true → not (v .due) ≡ true → kept (withId v a) ≡ true
-  id-kept v h d = kept-by (withId v a) (rx-kept a k) (tx-kept a k) (join (idSound v) (not (v .due) && selectSound (a .select)) h (join (not (v .due)) (selectSound (a .select)) d selected))
+  id-kept v h d = kept-by (withId v a) (rx-kept a k) (tx-kept a k) (join (idSound v) (not (v .due) && selectSound (a .select)) h (join (not (v .due)) (selectSound (a .select)) d (selected a s)))
 
   pub rx-changed : (x : Rx) → rxs.kept (rxRoom a) x ≡ true → kept (withRx x a) ≡ true
   rx-changed x h = kept-by (withRx x a) h (tx-kept a k) (registers-kept a k)

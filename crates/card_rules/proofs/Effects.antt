@@ -4,6 +4,7 @@ use mathlib.Core.Bool.{not, _&&_}
 use Prim.Native.Nat.{ℕ, _%_}
 use Rattle.bits.specs.Bits.{has}
 use Rattle.store.specs.Store.{frames}
+use Rattle.receive_rules.specs.Update.{withEarly}
 use Rattle.receive_rules.specs.Reading as reading
 use Rattle.receive_rules.specs.Reading.{deafened}
 use Rattle.transmit_rules.specs.Queue.{empty}
@@ -14,12 +15,13 @@ use Rattle.transmit_rules.specs.Outcome as outcome
 use Rattle.transmit_rules.specs.OutcomesView.{reportsOf, Reported}
 use Rattle.transmit_rules.specs.Tx as tx
 use Rattle.transmit_rules.specs.Tx.{withReports}
+use Rattle.transmit_rules.proofs.Steps.{emptied}
 use Rattle.card_rules.specs.declared.Card.{Card}
 use Rattle.card_rules.specs.Update.{withSelect, withRx, withTx, selectFilter}
-use Rattle.card_rules.specs.Power.{reset, quietRx}
-use Rattle.card_rules.specs.Groups.{cardSelect, cardReceive, cardTransmit, cardOutcomes}
+use Rattle.card_rules.specs.Power.{quietRx}
+use Rattle.card_rules.specs.Groups.{cardSelect, cardLines, cardReceive, cardReceiver, cardTransmit, cardOutcomes}
 use Rattle.card_rules.specs.View.{view, Is, Does}
-use Rattle.card_rules.proofs.Blank.{emptied, frames-packed, packets-packed}
+use Rattle.card_rules.proofs.Blank.{frames-packed, packets-packed}
 use Rattle.card_rules.specs.Command.{rxReset, txReset, acknowledge}
 
 module _ (c : Card) where
@@ -59,28 +61,8 @@ module _ (c : Card) where
 
   abbrev answered : ℕ → Card → Card
   answered x d =
-      record {
-        id = d .id;
-        select = d .select;
-        lines = record { latch = not (has 1 x) && c .lines .latch; requested = not (has 64 x) && c .lines .requested; low = d .lines .low };
-        config = d .config;
-        prom = d .prom;
-        receive =
-            record {
-              receiver =
-                  record {
-                    on = d .receive .receiver .on;
-                    failed = d .receive .receiver .failed;
-                    early = not (has 32 x) && c .receive .receiver .early;
-                    told = d .receive .receiver .told;
-                    threshold = d .receive .receiver .threshold;
-                    read = d .receive .receiver .read;
-                    wire = d .receive .receiver .wire;
-                  };
-              frames = d .receive .frames;
-            };
-        transmit = d .transmit;
-      }
+      cardLines (record { latch = not (has 1 x) && c .lines .latch; requested = not (has 64 x) && c .lines .requested; low = d .lines .low })
+      (cardReceiver (withEarly (not (has 32 x) && c .receive .receiver .early) (d .receive .receiver .told) (d .receive .receiver)) d)
 
   pub acknowledge-does : (x : ℕ) (o : Outcomes) (d : Card) → d ≡ cardOutcomes o c
       → Reported o (outcome.acknowledge (has 8 x) (reportsOf (c .transmit .outcomes))) → Does c (answered x d) (acknowledge x)

@@ -5,23 +5,20 @@ use mathlib.Core.List.{[]}
 use lib.ListN.{replicate}
 use Rattle.receive_rules.specs.Wire.{passes}
 use Rattle.card_rules.specs.Adapter.{Adapter}
-use Rattle.port_rules.specs.declared.IdState.{IdState}
-use Rattle.card_rules.specs.Update.{withId, withSelect}
+use Rattle.card_rules.specs.Update.{withSelect, selectFilter}
 use Rattle.card_rules.specs.Power.{powerOn}
 use Rattle.card_rules.specs.Effect.{taken}
-
-activated : Bool → IdState → IdState
-activated v i = record { command = i .command; port = i .port; at = i .at; tag = i .tag; shift = i .shift; address = i .address; active = v; due = i .due; words = i .words }
+use Rattle.card_rules.proofs.Active.{woken}
 
 -- a card whose filter takes all frames, active or not
 hearing : Bool → Adapter
-hearing v = let a = powerOn [] 0 in withId (activated v (a .id)) (withSelect (record { window = 0; mask = 0; zero = 0; filter = 8 }) a)
+hearing v = let a = powerOn [] 0 in woken v (withSelect (selectFilter 8 (a .select)) a)
 
 awake : taken (replicate 8 4) (hearing true) ≡ true
-unfolding hearing activated powerOn passes
+unfolding hearing powerOn passes
 awake = refl
 
 -- an inactive card takes none
 asleep : taken (replicate 8 4) (hearing false) ≡ false
-unfolding hearing activated powerOn passes
+unfolding hearing powerOn passes
 asleep = refl

@@ -1,32 +1,44 @@
+-- Laws and worked examples.
+-- the adapter, in the order of document 01's section "Registers"
+pub mod Ranges
+pub mod Groups
 pub mod Blank
-pub mod CardExamples
-mod CardTestsExamples
+pub mod Active
+pub mod Join
+pub mod Sides
+pub mod Ends
+pub mod Quiet
 pub mod Checked
+pub mod RegsExamples
+-- EEPROM commands
+pub mod SetupExamples
+-- the commands
+pub mod Effects
 pub mod CommandKeeps
 pub mod CommandsExamples
-pub mod EffectSides
-pub mod Effects
-pub mod EffectsExamples
-pub mod Ends
+-- the reads
 pub mod Free
-pub mod Groups
 pub mod In
-pub mod Join
+pub mod WindowReadExamples
+-- the writes
+pub mod WindowWriteExamples
+pub mod Split
+pub mod Tests
+pub mod Windows
+-- the steps before they are settled
+pub mod Written
+pub mod EffectSides
+pub mod EffectsExamples
+-- a seated ID state
+pub mod Seats
+pub mod SeatingExamples
+-- accesses and events
+pub mod StepsExamples
+pub mod StepKeeps
+pub mod StepEnds
+-- the tests of the calls
+mod CardTestsExamples
+-- the public calls
 pub mod Judged
 pub mod Power
-pub mod Quiet
-pub mod Ranges
-pub mod RegsExamples
-pub mod SeatingExamples
-pub mod Seats
-pub mod SetupExamples
-pub mod Sides
-pub mod Split
-pub mod StepEnds
-pub mod StepKeeps
-pub mod StepsExamples
-pub mod Tests
-pub mod WindowReadExamples
-pub mod WindowWriteExamples
-pub mod Windows
-pub mod Written
+pub mod CardExamples

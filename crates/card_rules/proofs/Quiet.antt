@@ -20,7 +20,7 @@ use Rattle.card_rules.specs.Adapter.{Adapter}
 use Rattle.card_rules.specs.Status.{flags, interrupting}
 use Rattle.card_rules.specs.Settle.{settle}
 use Rattle.card_rules.specs.Room.{rxRoom, txRoom}
-use Rattle.card_rules.specs.Sound.{kept, latchSettled, sound}
+use Rattle.card_rules.specs.Sound.{kept, sound}
 use Rattle.card_rules.specs.View.{rxSizeOf, view, Stands, Held}
 use Rattle.card_rules.proofs.Sides.{rx-kept, tx-kept, registers-kept, sound-by, settle-sound, settle-stays}
 

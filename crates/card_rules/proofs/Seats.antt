@@ -1,7 +1,6 @@
 -- A seated ID state on the whole card. Assumes nothing.
 use mathlib.Core.Path.{_≡_, sym, ap, _∙_}
 use mathlib.Core.Bool.{Bool, true, false, cond}
-use mathlib.Core.List.{List}
 use Prim.Native.Nat.{ℕ}
 use Rattle.port_rules.specs.declared.IdState.{IdState}
 use Rattle.receive_rules.specs.Reading.{deafened}
@@ -10,7 +9,7 @@ use Rattle.card_rules.specs.Adapter.{Adapter}
 use Rattle.card_rules.specs.Update.{withId, idDue}
 use Rattle.card_rules.specs.Power.{powerOn}
 use Rattle.card_rules.specs.Groups.{cardId}
-use Rattle.card_rules.specs.View.{view, Held, Blank, Does}
+use Rattle.card_rules.specs.View.{view, Blank, Does}
 use Rattle.card_rules.proofs.Groups.{is-id}
 use Rattle.card_rules.specs.Seat.{seated}
 

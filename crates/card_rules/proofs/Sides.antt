@@ -1,15 +1,17 @@
 -- What the soundness of a card tells of its parts, and what the parts' soundness tells of the card. Assumes nothing.
-use mathlib.Core.Path.{_≡_, refl, sym, ap, subst⁻¹, _∙_}
-use mathlib.Core.Bool.{Bool, true, false, not, _&&_, _||_}
+use mathlib.Core.Path.{_≡_, ap, subst⁻¹, _∙_}
+use mathlib.Core.Bool.{Bool, true, not, _&&_}
 use mathlib.Core.List.{List}
 use Prim.Native.Nat.{ℕ, _%_}
 use Rattle.bits.proofs.Tests.{both, join}
+use Rattle.port_rules.specs.Sound.{idSound}
 use Rattle.receive_rules.specs.View as rx
 use Rattle.receive_rules.specs.Sound as rxs
 use Rattle.receive_rules.proofs.Facts.{sound-told, kept-shown}
 use Rattle.receive_rules.proofs.Settled as rxk
 use Rattle.transmit_rules.specs.Tx as txs
 use Rattle.transmit_rules.specs.View as tx
+use Rattle.transmit_rules.proofs.OutcomesKeeps.{settled, stays}
 use Rattle.transmit_rules.proofs.Keeps as txk
 use Rattle.card_rules.specs.declared.Card.{Card}
 use Rattle.card_rules.specs.Adapter.{Adapter}
@@ -17,7 +19,7 @@ use Rattle.card_rules.specs.Status.{flags, interrupting}
 use Rattle.card_rules.specs.Update.{withLines, withRx, withTx, linesLatch}
 use Rattle.card_rules.specs.Settle.{withLatch, settle, settleSides}
 use Rattle.card_rules.specs.Room.{rxRoom, txRoom}
-use Rattle.card_rules.specs.Sound.{registersSound, kept, latchSettled, sound}
+use Rattle.card_rules.specs.Sound.{selectSound, registersSound, kept, latchSettled, sound}
 use Rattle.card_rules.specs.View.{rxSizeOf, txSizeOf, view, Sound}
 use Rattle.card_rules.proofs.Ranges.{rx-small, tx-small}
 
@@ -48,6 +50,19 @@ module _ (a : Adapter) where
   pub latch-of : sound a ≡ true → latchSettled a ≡ true
   latch-of s = both (registersSound a) (latchSettled a) (both txPart rest (others s) .1) .1
 
+  -- the ID state is sound, no reset is due, and the selected registers are in range
+  pub identified : sound a ≡ true → idSound (a .id) ≡ true
+  identified s = both (idSound (a .id)) (not (a .id .due) && selectSound (a .select)) (registers-of s) .0
+
+  idle-selected : sound a ≡ true → (not (a .id .due) && selectSound (a .select)) ≡ true
+  idle-selected s = both (idSound (a .id)) (not (a .id .due) && selectSound (a .select)) (registers-of s) .1
+
+  pub idle : sound a ≡ true → not (a .id .due) ≡ true
+  idle s = both (not (a .id .due)) (selectSound (a .select)) (idle-selected s) .0
+
+  pub selected : sound a ≡ true → selectSound (a .select) ≡ true
+  selected s = both (not (a .id .due)) (selectSound (a .select)) (idle-selected s) .1
+
   pub sound-by : rxPart ≡ true → txPart ≡ true → registersSound a ≡ true → latchSettled a ≡ true → sound a ≡ true
   sound-by r t g l = join rxPart (txPart && rest) r (join txPart rest t (join (registersSound a) (latchSettled a) g l))
 
@@ -76,30 +91,19 @@ module _ (a : Adapter) where
 
 -- ---- settle
 
--- the latch, once settled
-latched : (i l : Bool) → ((i || l) || not i) ≡ true
-latched true l = refl
-latched false true = refl
-latched false false = refl
-
-kept-latch : (i l : Bool) → (l || not i) ≡ true → (i || l) ≡ l
-kept-latch true true e = refl
-kept-latch true false e = sym e
-kept-latch false l e = refl
-
 -- What is kept is sound once it is settled.
 pub settle-sound : (a : Adapter) → kept a ≡ true → sound (settle a) ≡ true
 unfolding settle interrupting
 settle-sound a k =
     sound-by (settle a) (rxk.settled-sound (rxRoom a) (a .rx) (rx-kept a k)) (txk.settle-sound (txRoom a) (a .tx) (tx-kept a k)) (registers-kept a k)
-    (latched (interrupting (a .select) (flags (settleSides a))) (a .lines .latch))
+    (settled (interrupting (a .select) (flags (settleSides a))) (a .lines .latch))
 
 -- What is sound is settled already.
 pub settle-stays : (a : Adapter) → sound a ≡ true → settle a ≡ a
 unfolding settle
 settle-stays a s =
     let e : settleSides a ≡ a = λ j. withTx (txk.settle-stays (txRoom a) (a .tx) (tx-of a s) j) (withRx (rxk.settled-same (rxRoom a) (a .rx) (rx-of a s) j) a) in
-    ap withLatch e ∙ ap (λ (l : Bool). withLines (linesLatch l (a .lines)) a) (kept-latch (interrupting (a .select) (flags a)) (a .lines .latch) (latch-of a s))
+    ap withLatch e ∙ ap (λ (l : Bool). withLines (linesLatch l (a .lines)) a) (stays (interrupting (a .select) (flags a)) (a .lines .latch) (latch-of a s))
 
 -- ---- a sound card
 

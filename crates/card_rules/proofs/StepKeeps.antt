@@ -31,7 +31,7 @@ use Rattle.card_rules.specs.Update.{withId, withConfig, withLines, withR
 use Rattle.card_rules.specs.Room.{rxRoom, txRoom}
 use Rattle.card_rules.specs.Power.{powerOn}
 use Rattle.card_rules.specs.Sound.{selectSound, kept, sound}
-use Rattle.card_rules.proofs.Sides.{rx-of, tx-of, registers-of, kept-by, kept-of, rx-kept, tx-kept}
+use Rattle.card_rules.proofs.Sides.{rx-of, tx-of, registers-of, kept-by, kept-of, rx-kept, tx-kept, identified, idle}
 use Rattle.card_rules.specs.declared.Setup.{Setup}
 use Rattle.card_rules.specs.Eeprom.{ifEnabled, leaving, writeWord, eraseWord, whole, promCommand, writeAll, eraseAll}
 use Rattle.card_rules.specs.Event.{seated}
@@ -88,12 +88,6 @@ orderly-any size other q e w h =
     join (leb need other && allSized (q .packets)) (growing (q .part)) (join (leb need other) (allSized (q .packets)) (le-leb need other f) (r .1)) (p .1)
 
 module _ (a : Adapter) (s : sound a ≡ true) where
-  idle : not (a .id .due) ≡ true
-  idle = both (not (a .id .due)) _ (both (idSound (a .id)) _ (registers-of a s) .1) .0
-
-  identified : idSound (a .id) ≡ true
-  identified = both (idSound (a .id)) _ (registers-of a s) .0
-
   same : Keeping a
   same = record { is = kept-of a s }
 
@@ -106,7 +100,7 @@ module _ (a : Adapter) (s : sound a ≡ true) where
   eeprom-keeps : (v : ℕ) → Keeping (eeprom v a)
   eeprom-keeps v =
       let t = prom-stands v (a .id) (a .prom) in
-      record { is = id-kept a s (promCommand v (a .id) (a .prom) .id) (t .sound ∙ identified) (ap not (t .due) ∙ idle) }
+      record { is = id-kept a s (promCommand v (a .id) (a .prom) .id) (t .sound ∙ identified a s) (ap not (t .due) ∙ idle a s) }
 
   write0-keeps : (l : Lanes) (o v : ℕ) → Keeping (write0 l o v a)
   unfolding write0 idSound

@@ -1,4 +1,4 @@
--- A card with one group changed: all the rest is as it was. Assumes nothing.
+-- A card with one group changed: all the rest is as it was. Made by tools/updates. Assumes nothing.
 use Rattle.port_rules.specs.declared.IdState.{IdState}
 use Rattle.receive_rules.specs.declared.Receiver.{Receiver}
 use Rattle.receive_rules.specs.declared.Receive.{Receive}

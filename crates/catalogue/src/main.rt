@@ -1,5 +1,6 @@
 // The catalogue at a shell: `catalogue list FILE` and the other commands that `text::usage` names.
 use catalogue_lib::text;
+use check::same;
 
 mod change;
 mod moving;
@@ -8,9 +9,9 @@ mod show;
 
 // A command that moves an archive: two names, and --replace at any place behind the command.
 fn archive(inward: bool, words: usize, one: &[u8], two: &[u8], three: &[u8]) {
-    let first = text::same(one, b"--replace");
-    let second = text::same(two, b"--replace");
-    let third = text::same(three, b"--replace");
+    let first = same(one, b"--replace");
+    let second = same(two, b"--replace");
+    let third = same(three, b"--replace");
     if (words == 4) & !first & !second {
         moving::archive(inward, one, two, false);
     } else if (words == 5) & first & !second & !third {
@@ -26,25 +27,25 @@ fn archive(inward: bool, words: usize, one: &[u8], two: &[u8], three: &[u8]) {
 
 // The command, with what stands behind it; `words` counts the program's name and the command too.
 fn run(words: usize, verb: &[u8], one: &[u8], two: &[u8], three: &[u8], four: &[u8]) {
-    if (words == 3) & text::same(verb, b"list") {
+    if (words == 3) & same(verb, b"list") {
         show::judge(one, true);
-    } else if (words == 3) & text::same(verb, b"check") {
+    } else if (words == 3) & same(verb, b"check") {
         show::judge(one, false);
-    } else if (words == 4) & text::same(verb, b"show") {
+    } else if (words == 4) & same(verb, b"show") {
         show::latest(one, two);
-    } else if (words == 5) & text::same(verb, b"show") {
+    } else if (words == 5) & same(verb, b"show") {
         show::given(one, two, three);
-    } else if (words == 6) & text::same(verb, b"diff") {
+    } else if (words == 6) & same(verb, b"diff") {
         show::diff(one, two, three, four);
-    } else if (words == 5) & text::same(verb, b"lookup") {
+    } else if (words == 5) & same(verb, b"lookup") {
         show::lookup(one, two, three);
-    } else if (words == 4) & text::same(verb, b"add") {
+    } else if (words == 4) & same(verb, b"add") {
         change::add(one, two);
-    } else if (words == 4) & text::same(verb, b"drop") {
+    } else if (words == 4) & same(verb, b"drop") {
         change::drop(one, two);
-    } else if text::same(verb, b"import") {
+    } else if same(verb, b"import") {
         archive(true, words, one, two, three);
-    } else if text::same(verb, b"export") {
+    } else if same(verb, b"export") {
         archive(false, words, one, two, three);
     } else {
         text::usage();

@@ -28,18 +28,12 @@ use Rattle.catalogue_rules.specs.Edit as edit
 use Rattle.catalogue_rules.specs.Edit.{Change, orElse, ifSound, onCatalogue, versionFields, withVersion, latestNumber, whose, noVersion, noCard, withAdded, addedTo, added}
 use Rattle.catalogue_rules.specs.declared.Written.{Written}
 use Rattle.catalogue_rules.specs.declared.Written.the-variants as written
-use Rattle.catalogue_rules.specs.Put.{putAt, answerOf, areaAfter}
+use Rattle.catalogue_rules.specs.Put.{putAt}
 use Rattle.catalogue_rules.specs.PutContracts.{Writes}
-use Rattle.catalogue_rules.proofs.Chain.{put-front}
+use Rattle.catalogue_rules.proofs.Changes.{settle, unread, refusing, writing}
 use Rattle.catalogue_put.specs.Places.{seekIf, cardPlace}
+use Rattle.catalogue_put.proofs.Behind.{missing-if, behind-if}
 use Rattle.catalogue_add.specs.Taken.{Parsed}
-
-pub does-refuse : (change : Change) (why : Refusal) (area : List ℕ) → change ≡ edit.no why → Writes change (written.Refused why) area area
-does-refuse change why area e = (ap answerOf (sym e), ap (λ (x : Change). areaAfter x area) (sym e))
-
-pub does-write : (change : Change) (new area after : List ℕ) (n : ℕ) → change ≡ edit.bytes new → n ≡ length new → after ≡ putAt area 0 new → Writes change (written.Bytes n) area after
-does-write change new area after n e l p =
-    (ap written.Bytes l ∙ ap answerOf (sym e), p ∙ put-front area new ∙ ap (λ (x : Change). areaAfter x area) (sym e))
 
 -- No place where the first test holds, listed twice where the second does; the refusal of an unsound image; the new file.
 pub record Chooses (change : Change) (full twice : Bool) (k : Checked) (new : List ℕ) : Type 0 where
@@ -47,20 +41,20 @@ pub record Chooses (change : Change) (full twice : Bool) (k : Checked) (new : Li
 
 module _ {change : Change} {full twice : Bool} {k : Checked} {new : List ℕ} (e : Chooses change full twice k new) (area : List ℕ) where
   pub no-place : full ≡ true → Writes change (written.Refused NoPlace) area area
-  no-place h = does-refuse change NoPlace area (e .is ∙ ap (λ (b : Bool). orElse b NoPlace (orElse twice ListedTwice (ifSound k (edit.bytes new)))) h)
+  no-place h = refusing change NoPlace (e .is ∙ ap (λ (b : Bool). orElse b NoPlace (orElse twice ListedTwice (ifSound k (edit.bytes new)))) h) area
 
   module _ (h : full ≡ false) where
     has-place : change ≡ orElse twice ListedTwice (ifSound k (edit.bytes new))
     has-place = e .is ∙ ap (λ (b : Bool). orElse b NoPlace (orElse twice ListedTwice (ifSound k (edit.bytes new)))) h
 
     pub is-twice : twice ≡ true → Writes change (written.Refused ListedTwice) area area
-    is-twice t = does-refuse change ListedTwice area (has-place ∙ ap (λ (b : Bool). orElse b ListedTwice (ifSound k (edit.bytes new))) t)
+    is-twice t = refusing change ListedTwice (has-place ∙ ap (λ (b : Bool). orElse b ListedTwice (ifSound k (edit.bytes new))) t) area
 
     pub unsound : twice ≡ false → (why : Refusal) → checked.Refused why ≡ k → Writes change (written.Refused why) area area
-    unsound t why u = does-refuse change why area (has-place ∙ ap₂ (λ (b : Bool) (x : Checked). orElse b ListedTwice (ifSound x (edit.bytes new))) t (sym u))
+    unsound t why u = refusing change why (has-place ∙ ap₂ (λ (b : Bool) (x : Checked). orElse b ListedTwice (ifSound x (edit.bytes new))) t (sym u)) area
 
     pub sound : twice ≡ false → {x y z : ℕ} → checked.Sound x y z ≡ k → (after : List ℕ) (n : ℕ) → n ≡ length new → after ≡ putAt area 0 new → Writes change (written.Bytes n) area after
-    sound t u after n l p = does-write change new area after n (has-place ∙ ap₂ (λ (b : Bool) (x : Checked). orElse b ListedTwice (ifSound x (edit.bytes new))) t (sym u)) l p
+    sound t u after n l p = writing change new (has-place ∙ ap₂ (λ (b : Bool) (x : Checked). orElse b ListedTwice (ifSound x (edit.bytes new))) t (sym u)) area after n l p
 
 -- What the tests leave.
 module _ (cards n : ℕ) (e : (leb 64 cards || ltb 65532 n) ≡ false) where
@@ -153,7 +147,7 @@ module _ (file : List ℕ) (fs : List Field) (e : parsed file ≡ catalogue fs) 
 module _ (file image area : List ℕ) where
   pub short : length area < length file + 145 → Writes (added (length area) file image) (written.Refused ArgumentOutside) area area
   unfolding added
-  short h = does-refuse _ ArgumentOutside area (ap (λ (b : Bool). orElse b ArgumentOutside (orElse (not (eqb (length image) 128)) LengthOutside (onCatalogue (parsed file) (addedTo image)))) (lt-ltb (length area) (length file + 145) h))
+  short h = refusing _ ArgumentOutside (ap (λ (b : Bool). orElse b ArgumentOutside (orElse (not (eqb (length image) 128)) LengthOutside (onCatalogue (parsed file) (addedTo image)))) (lt-ltb (length area) (length file + 145) h)) area
 
   module _ (fits : length file + 145 ≤ length area) where
     roomy : added (length area) file image ≡ orElse (not (eqb (length image) 128)) LengthOutside (onCatalogue (parsed file) (addedTo image))
@@ -161,21 +155,17 @@ module _ (file image area : List ℕ) where
     roomy = ap (λ (b : Bool). orElse b ArgumentOutside (orElse (not (eqb (length image) 128)) LengthOutside (onCatalogue (parsed file) (addedTo image)))) (le-ltb (length area) (length file + 145) fits)
 
     pub wrong-length : (length image ≡ 128 → ⊥) → Writes (added (length area) file image) (written.Refused LengthOutside) area area
-    wrong-length h = does-refuse _ LengthOutside area (roomy ∙ ap (λ (b : Bool). orElse (not b) LengthOutside (onCatalogue (parsed file) (addedTo image))) (ne-eqb (length image) 128 h))
+    wrong-length h = refusing _ LengthOutside (roomy ∙ ap (λ (b : Bool). orElse (not b) LengthOutside (onCatalogue (parsed file) (addedTo image))) (ne-eqb (length image) 128 h)) area
 
     module _ (l : length image ≡ 128) where
       passed : added (length area) file image ≡ onCatalogue (parsed file) (addedTo image)
       passed = roomy ∙ ap (λ (b : Bool). orElse (not b) LengthOutside (onCatalogue (parsed file) (addedTo image))) (eq-eqb (length image) 128 l)
 
-      refused-if : (r : Reading) (why : Refusal) → told.Refused why ≡ judged r → onCatalogue r (addedTo image) ≡ edit.no why
-      refused-if (catalogue fs) why e = let z : _≡_ {A = ℕ} 0 1 = cc in absurd (omega arith)
-      refused-if (refused other) why e = let q : other ≡ why = cc in ap edit.no q
-
       pub damaged : (why : Refusal) → told.Refused why ≡ judged (parsed file) → Writes (added (length area) file image) (written.Refused why) area area
-      damaged why e = does-refuse _ why area (passed ∙ refused-if (parsed file) why e)
+      damaged why e = refusing _ why (passed ∙ unread (addedTo image) (parsed file) why e) area
 
       pub goes-on : {answer : Written} {after : List ℕ} → Writes (onCatalogue (parsed file) (addedTo image)) answer area after → Writes (added (length area) file image) answer area after
-      goes-on d = (d .0 ∙ ap answerOf (sym passed), d .1 ∙ ap (λ (x : Change). areaAfter x area) (sym passed))
+      goes-on d = settle area passed (d .0) (d .1)
 
 -- What the walk over the fields and the search for the card told.
 parsed-if : (file : List ℕ) (r : Reading) (cards n : ℕ) → parsed file ≡ r → told.Sound cards n ≡ judged r → Parsed file cards n
@@ -187,18 +177,6 @@ parsed-if file (refused why) cards n q e = let z : _≡_ {A = ℕ} 0 1 = cc in a
 pub was-parsed : (file : List ℕ) (cards n : ℕ) → told.Sound cards n ≡ judged (parsed file) → Parsed file cards n
 was-parsed file cards n e = parsed-if file (parsed file) cards n refl e
 
-missing-if : (b : Bool) (place : ℕ) → Missing ≡ seekIf b place → b ≡ false
-missing-if true place e = let z : _≡_ {A = ℕ} 0 1 = cc in absurd (omega arith)
-missing-if false place e = refl
-
-found-if : (b : Bool) (place at : ℕ) → Behind at ≡ seekIf b place → b ≡ true
-found-if true place at e = refl
-found-if false place at e = let z : _≡_ {A = ℕ} 0 1 = cc in absurd (omega arith)
-
-place-if : (b : Bool) (place at : ℕ) → Behind at ≡ seekIf b place → at ≡ place
-place-if true place at e = cc
-place-if false place at e = let z : _≡_ {A = ℕ} 0 1 = cc in absurd (omega arith)
-
 module _ (fs : List Field) (image : List ℕ) {address : ℕ} (q : address ≡ addressOf (addressIn image)) where
   sought : seekIf (isAmong address (addressesOf fs)) (cardPlace address fs) ≡ seekIf (isAmong (addressOf (addressIn image)) (addressesOf fs)) (cardPlace (addressOf (addressIn image)) fs)
   sought = ap (λ (x : ℕ). seekIf (isAmong x (addressesOf fs)) (cardPlace x fs)) q
@@ -208,7 +186,7 @@ module _ (fs : List Field) (image : List ℕ) {address : ℕ} (q : address ≡ a
 
   module _ {at : ℕ} (e : Behind at ≡ seekIf (isAmong address (addressesOf fs)) (cardPlace address fs)) where
     pub card-found : isAmong (addressOf (addressIn image)) (addressesOf fs) ≡ true
-    card-found = found-if (isAmong (addressOf (addressIn image)) (addressesOf fs)) (cardPlace (addressOf (addressIn image)) fs) at (e ∙ sought)
+    card-found = behind-if (isAmong (addressOf (addressIn image)) (addressesOf fs)) (cardPlace (addressOf (addressIn image)) fs) at (e ∙ sought) .0
 
     pub found-place : at ≡ cardPlace (addressOf (addressIn image)) fs
-    found-place = place-if (isAmong (addressOf (addressIn image)) (addressesOf fs)) (cardPlace (addressOf (addressIn image)) fs) at (e ∙ sought)
+    found-place = behind-if (isAmong (addressOf (addressIn image)) (addressesOf fs)) (cardPlace (addressOf (addressIn image)) fs) at (e ∙ sought) .1

@@ -8,7 +8,7 @@ use native.Mathlib.Omega.{arith}
 use borrow.Author.Tests.{not-true}
 use lib.ListN.{length, take, drop, length-append}
 use lib.Dec.{eqb}
-use Rattle.catalogue_rules.specs.Field.{Field, sizeOf, field, written, bytesOf}
+use Rattle.catalogue_rules.specs.Field.{Field, sizeOf, written, bytesOf}
 use Rattle.catalogue_rules.proofs.Append.{bytes-append}
 use Rattle.catalogue_rules.specs.declared.Turn.{Turn}
 use Rattle.catalogue_rules.specs.Turns.{addressOf, after, isDamaged}
@@ -17,7 +17,8 @@ use Rattle.catalogue_rules.proofs.Bools.{and-left, and-right}
 use Rattle.catalogue_rules.specs.RoundTrip.{inTurn}
 use Rattle.catalogue_rules.specs.Edit.{atCardsEnd, withVersion}
 use Rattle.catalogue_put.specs.Places.{cardPlace, cardEnd}
-use Rattle.catalogue_add.proofs.Runs.{take-size, drop-size, behindCard}
+use Rattle.catalogue_put.proofs.Behind.{behindCard}
+use Rattle.catalogue_add.proofs.Runs.{take-size, drop-size}
 
 -- None of the fields is a count.
 unfoldable pub NoCount : List Field → Type 0

@@ -16,7 +16,7 @@ use Rattle.catalogue_rules.specs.Archive.{addressIn}
 use Rattle.catalogue_rules.specs.Edit.{versionFields, withVersion}
 use Rattle.catalogue_rules.proofs.Chain.{version-length}
 use Rattle.catalogue_put.specs.Places.{cardPlace, cardEnd}
-use Rattle.catalogue_add.proofs.Runs.{behindCard}
+use Rattle.catalogue_put.proofs.Behind.{behindCard}
 use Rattle.catalogue_add.proofs.Whole.{card-bound, count-length, file-length, before-count, take-before, take-behind, no-count, versions-there, end-there, card-file, version-file}
 use Rattle.catalogue_add.proofs.Chains.{card-length}
 

@@ -21,7 +21,8 @@ use Rattle.catalogue_rules.proofs.Fit.{accepted-is-well-formed}
 use Rattle.catalogue_rules.proofs.Accepted.{versions-parsed}
 use Rattle.catalogue_rules.specs.Edit.{isCard, withVersion}
 use Rattle.catalogue_put.specs.Places.{cardPlace, cardEnd}
-use Rattle.catalogue_add.proofs.Runs.{behindCard, versions-behind, behind-place}
+use Rattle.catalogue_put.proofs.Behind.{behindCard, behind-place}
+use Rattle.catalogue_add.proofs.Runs.{versions-behind}
 use Rattle.catalogue_add.proofs.Insert.{NoCount, in-turn-no-count, version-between, version-count}
 
 -- ---- a place lies before the count

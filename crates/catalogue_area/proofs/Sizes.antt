@@ -17,6 +17,8 @@ use Rattle.catalogue_rules.specs.Reading.{catalogue, read, addressesOf, countFi
 use Rattle.catalogue_rules.specs.RoundTrip.{Bytes, inTurn, WellFormed}
 use Rattle.catalogue_rules.proofs.Fit.{accepted-is-well-formed}
 use Rattle.catalogue_rules.proofs.Round.{read-is-written}
+use Rattle.catalogue_rules.specs.FileWalk.{oneIf}
+use Rattle.catalogue_rules.proofs.Walks.{one-more}
 use Rattle.catalogue_rules.specs.Unknown.{isKnown}
 use Rattle.catalogue_area.specs.Area.{unknownBytes, fullSize}
 
@@ -83,10 +85,6 @@ module _ (l : ℕ) where
   image-fits (Imaged nth n) m e d = never (sym d)
   image-fits Damaged m e d = never (sym d)
 
-abbrev oneIf : Bool → ℕ
-oneIf true = 1
-oneIf false = 0
-
 -- By the tests of its tag.
 module _ (turn : Turn) (f : Field) (m : told turn ≤ 8) where
   by-tag : (a b c : Bool) → Goes turn
@@ -106,13 +104,9 @@ module _ (turn : Turn) (f : Field) (m : told turn ≤ 8) where
 
 -- ---- all fields
 
-cards-if : (b : Bool) (a : ℕ) (l : List ℕ) → length (cond b (a ∷ l) l) ≡ oneIf b + length l
-cards-if true a l = omega arith
-cards-if false a l = omega arith
-
 more-cards : (f : Field) (fs : List Field) → length (addressesOf (f ∷ fs)) ≡ oneIf (eqb (f .tag) 1) + length (addressesOf fs)
 unfolding addressesOf
-more-cards f fs = cards-if (eqb (f .tag) 1) (addressOf (f .value)) (addressesOf fs)
+more-cards f fs = one-more (eqb (f .tag) 1) (addressOf (f .value)) (addressesOf fs)
 
 unknown-if : (f : Field) (fs : List Field) (b : Bool) → isKnown f ≡ b → cond b 0 (3 + length (f .value)) + unknownBytes fs ≤ unknownBytes (f ∷ fs)
 unfolding unknownBytes

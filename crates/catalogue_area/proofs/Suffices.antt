@@ -10,13 +10,14 @@ use borrow.Author.Tests.{le-ltb, le-leb, eq-eqb}
 use lib.ListN.{length}
 use lib.Dec.{eqb, ltb}
 use Rattle.bits.proofs.Tests.{never}
-use Rattle.refusal.specs.declared.Refusal.{Refusal}
 use Rattle.refusal.specs.declared.Refusal.the-variants.{ArgumentOutside, LengthOutside, NoPlace, ListedTwice}
 use Rattle.catalogue_rules.specs.Field.{Field}
 use Rattle.catalogue_rules.specs.Turns.{addressOf}
 use Rattle.catalogue_rules.specs.Reading.{catalogue, parsed, read, hasRoom, addressesOf, isAmong, anyTwice, fileOf}
 use Rattle.catalogue_rules.specs.Cards.{versionsFrom, versionsAt, cardsOf}
+use Rattle.catalogue_rules.proofs.Bools.{or-second}
 use Rattle.catalogue_rules.proofs.Came.{roomy-only}
+use Rattle.catalogue_rules.proofs.Changes.{or-else, or-on}
 use Rattle.catalogue_rules.specs.RoundTrip.{Bytes}
 use Rattle.catalogue_rules.specs.Archive.{movedIn, movedOut, addressesIn}
 use Rattle.catalogue_rules.specs.Edit.{Change, bytes, no, orElse, onCatalogue, whose, noVersion, noCard, noPlace, addedTo, added, droppedFrom, dropped, imagesIn, imported, exported}
@@ -26,19 +27,9 @@ use Rattle.catalogue_area.proofs.Refusals.{isArea, not-area, orElse-not
 
 -- ---- no refusal 12
 
-passes : (b : Bool) (why : Refusal) (rest : Change) → b ≡ false → orElse b why rest ≡ rest
-passes b why rest e = rw e
-
-refuses : (b : Bool) (why : Refusal) (rest : Change) → b ≡ true → orElse b why rest ≡ no why
-refuses b why rest e = rw e
-
-or-second : (a b : Bool) → b ≡ true → a || b ≡ true
-or-second true b e = refl
-or-second false b e = e
-
 -- Where the test of the area passes, only what is behind it answers.
 behind : (b : Bool) (rest : Change) → b ≡ false → isArea rest ≡ false → isArea (orElse b ArgumentOutside rest) ≡ false
-behind b rest e r = ap isArea (passes b ArgumentOutside rest e) ∙ r
+behind b rest e r = ap isArea (or-on b ArgumentOutside rest e) ∙ r
 
 module _ (area : ℕ) (file : List ℕ) (fs : List Field) (b : Bytes file) (e : read file ≡ catalogue fs) (k : enough + unknownBytes fs ≤ area) where
   room-for-more : ltb area (length file + 145) ≡ false
@@ -97,15 +88,15 @@ no-more a fs false m full = rw (le-leb 64 (length (addressesOf fs)) (omega (arit
 full-adds-nothing : (image : List ℕ) (fs : List Field) → Full fs → addedTo image fs ≡ no NoPlace
 unfolding addedTo
 full-adds-nothing image fs full =
-    refuses (not (hasRoom fs) || noPlace (whose image) fs) NoPlace _
+    or-else (not (hasRoom fs) || noPlace (whose image) fs) NoPlace _
     (or-second (not (hasRoom fs)) _ (no-more (whose image) fs (isAmong (whose image) (addressesOf fs)) refl full))
 
 full-refuses : (area : ℕ) (file image : List ℕ) (fs : List Field) → Bytes file → read file ≡ catalogue fs → Full fs → enough + unknownBytes fs ≤ area
     → length image ≡ 128 → added area file image ≡ no NoPlace
 unfolding added
 full-refuses area file image fs b e full k l =
-    passes (ltb area (length file + 145)) ArgumentOutside _ (room-for-more area file fs b e k)
-    ∙ passes (not (eqb (length image) 128)) LengthOutside _ (ap not (eq-eqb (length image) 128 l))
+    or-on (ltb area (length file + 145)) ArgumentOutside _ (room-for-more area file fs b e k)
+    ∙ or-on (not (eqb (length image) 128)) LengthOutside _ (ap not (eq-eqb (length image) 128 l))
     ∙ ap (λ r. onCatalogue r (addedTo image)) (was-parsed area file fs b e k)
     ∙ full-adds-nothing image fs full
 

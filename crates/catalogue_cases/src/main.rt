@@ -8,6 +8,7 @@ use catalogue_rules::Hit;
 use catalogue_rules::Judged;
 use catalogue_rules::Place;
 use catalogue_rules::Written;
+use check::same;
 use libc::STDOUT_FILENO;
 use refusal::Refusal;
 
@@ -85,7 +86,7 @@ fn written(change: Written, out: &[u8], result: &[u8]) {
             let mut room = files::room();
             let got = files::read(result, &mut room);
             let k = got.len;
-            if text::same(catalogue_lookup::part(out, 0, n), &room[..k]) {
+            if same(catalogue_lookup::part(out, 0, n), &room[..k]) {
                 text::tell(b", those of ");
             } else {
                 text::tell(b", NOT those of ");
@@ -134,13 +135,13 @@ fn export(a: &[u8], out: &mut [u8], result: &[u8]) {
 
 // A call that is lent an area.
 fn change(call: &[u8], a: &[u8], b: &[u8], out: &mut [u8], result: &[u8]) {
-    if text::same(call, b"add") {
+    if same(call, b"add") {
         add(a, b, out, result);
-    } else if text::same(call, b"drop") {
+    } else if same(call, b"drop") {
         drop(a, b, out, result);
-    } else if text::same(call, b"import") {
+    } else if same(call, b"import") {
         import(a, out, result);
-    } else if text::same(call, b"export") {
+    } else if same(call, b"export") {
         export(a, out, result);
     } else {
         text::tell(b"no such call\n");
@@ -162,23 +163,23 @@ fn lend_most(call: &[u8], a: &[u8], b: &[u8], result: &[u8]) {
 
 fn run(call: &[u8], a: &[u8], b: &[u8], size: &[u8], result: &[u8]) {
     let number = text::version(size);
-    if text::same(call, b"check") {
+    if same(call, b"check") {
         check(a);
         return;
     }
-    if text::same(call, b"latest") {
+    if same(call, b"latest") {
         latest(a, b);
         return;
     }
-    if text::same(call, b"given") {
+    if same(call, b"given") {
         given(a, b, number.value);
         return;
     }
-    if text::same(call, b"lookup") {
+    if same(call, b"lookup") {
         lookup(a, b, size);
         return;
     }
-    if text::same(size, b"most") {
+    if same(size, b"most") {
         lend_most(call, a, b, result);
         return;
     }

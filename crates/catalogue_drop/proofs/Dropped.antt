@@ -20,8 +20,8 @@ use Rattle.catalogue_rules.proofs.Checked.{is-read}
 use Rattle.catalogue_rules.proofs.Accepted.{addresses-parsed}
 use Rattle.catalogue_rules.specs.Edit.{Change, bytes, no, orElse, onCatalogue, withoutVersion, droppedFrom, dropped}
 use Rattle.catalogue_put.specs.Places.{cardPlace, fieldPlace, seekIf}
-use Rattle.catalogue_rules.specs.declared.Written.{Written}
-use Rattle.catalogue_rules.specs.Put.{answerOf, areaAfter}
+use Rattle.catalogue_put.proofs.Behind.{missing-if, behind-if}
+use Rattle.catalogue_rules.proofs.Changes.{unread}
 use Rattle.catalogue_drop.specs.Around.{around, begins, numberPlace, imagePlace, newFile, Behind}
 use Rattle.catalogue_drop.proofs.Law.{is-behind, is-new}
 
@@ -76,11 +76,6 @@ module _ (file : List ℕ) (at n : ℕ) {number image : ℕ} (p : number ≡ num
 
 -- ---- the whole call
 
--- What is answered and left, once the change is known.
-pub settle : {d x : Change} {w : Written} (area : List ℕ) {after : List ℕ} → d ≡ x → w ≡ answerOf x → after ≡ areaAfter x area
-    → (w ≡ answerOf d) × (after ≡ areaAfter d area)
-settle area e p q = (p ∙ ap answerOf (sym e), q ∙ ap (λ (y : Change). areaAfter y area) (sym e))
-
 -- A file whose fields were taken in turn has so many cards and fields.
 record Taken (r : Reading) (c n : ℕ) : Type 0 where
   fs : List Field
@@ -106,12 +101,8 @@ module _ (area : ℕ) (file : List ℕ) (a : ℕ) where
     unfolding dropped
     judged-so = ap (λ (b : Bool). orElse b ArgumentOutside (onCatalogue (parsed file) (droppedFrom a))) (le-ltb area (length file) fits)
 
-    no-file-if : (r : Reading) (why : Refusal) → Refused why ≡ judged r → onCatalogue r (droppedFrom a) ≡ no why
-    no-file-if (catalogue fs) why e = let z : _≡_ {A = ℕ} 0 1 = cc in absurd (omega arith)
-    no-file-if (refused other) why e = let q : other ≡ why = cc in ap no q
-
     pub no-file : {why : Refusal} → Refused why ≡ judged (parsed file) → dropped area file a ≡ no why
-    no-file {why} e = judged-so ∙ no-file-if (parsed file) why e
+    no-file {why} e = judged-so ∙ unread (droppedFrom a) (parsed file) why e
 
     module _ {c n : ℕ} (e : Sound c n ≡ judged (parsed file)) where
       was : Taken (parsed file) c n
@@ -130,20 +121,12 @@ module _ (area : ℕ) (file : List ℕ) (a : ℕ) where
           (ap (isAmong a) (sym same-cards) ∙ m) (ap (λ (k : ℕ). leb k 64) (sym (was .cards)) ∙ r)
           ∙ ap (λ (x : Bool). tests there room x (fileOf (withoutVersion a (was .fs)))) (ap anyTwice (sym same-cards) ∙ t)
 
-      missing-if : (t : Bool) (place : ℕ) → seek.Missing ≡ seekIf t place → t ≡ false
-      missing-if true place e = let z : _≡_ {A = ℕ} 0 1 = cc in absurd (omega arith)
-      missing-if false place e = refl
-
       pub no-card : seek.Missing ≡ seekIf (isAmong a (addressesOf (fieldsOf file))) (cardPlace a (fieldsOf file)) → dropped area file a ≡ no NoSuchCard
       no-card s = tested false _ _ (missing-if (isAmong a (addressesOf (fieldsOf file))) (cardPlace a (fieldsOf file)) s) refl refl
 
-      behind-if : (t : Bool) (at place : ℕ) → seek.Behind at ≡ seekIf t place → (t ≡ true) × (place ≡ at)
-      behind-if true at place e = (refl, cc)
-      behind-if false at place e = let z : _≡_ {A = ℕ} 0 1 = cc in absurd (omega arith)
-
       module _ {at : ℕ} (s : seek.Behind at ≡ seekIf (isAmong a (addressesOf (fieldsOf file))) (cardPlace a (fieldsOf file))) where
-        there : (isAmong a (addressesOf (fieldsOf file)) ≡ true) × (cardPlace a (fieldsOf file) ≡ at)
-        there = behind-if (isAmong a (addressesOf (fieldsOf file))) at (cardPlace a (fieldsOf file)) s
+        there : (isAmong a (addressesOf (fieldsOf file)) ≡ true) × (at ≡ cardPlace a (fieldsOf file))
+        there = behind-if (isAmong a (addressesOf (fieldsOf file))) (cardPlace a (fieldsOf file)) at s
 
         pub too-many : 64 < c → dropped area file a ≡ no NoPlace
         too-many h = tested true false _ (there .0) (lt-leb c 64 h) refl
@@ -163,7 +146,7 @@ module _ (area : ℕ) (file : List ℕ) (a : ℕ) where
 
             pub behind-it : Behind file at n
             behind-it =
-                subst (λ (k : ℕ). Behind file k n) (there .1)
+                subst (λ (k : ℕ). Behind file k n) (sym (there .1))
                 (subst (λ (k : ℕ). Behind file (cardPlace a (fieldsOf file)) k) (sym (was .many)) (is-behind a file (was .fs) b was-sound among))
 
             pub new-so : dropped area file a ≡ bytes (newFile file at n)
@@ -171,4 +154,4 @@ module _ (area : ℕ) (file : List ℕ) (a : ℕ) where
                 tested true true false (there .0) (le-leb c 64 room) (sym t ∙ y)
                 ∙ ap bytes
                 (sym (is-new a file (was .fs) b was-sound among)
-                ∙ ap₂ (λ (x y : ℕ). newFile file x y) (there .1) (sym (was .many)))
+                ∙ ap₂ (λ (x y : ℕ). newFile file x y) (sym (there .1)) (sym (was .many)))

@@ -15,6 +15,7 @@ use Rattle.catalogue_rules.specs.Turns.{addressOf, afterAddress, after, isDamag
 use Rattle.catalogue_rules.specs.Reading.{addressesOf, isAmong}
 use Rattle.catalogue_rules.specs.Cards.{versionsFrom}
 use Rattle.catalogue_rules.proofs.Bools.{and-left, and-right}
+use Rattle.catalogue_rules.proofs.Turning.{held}
 use Rattle.catalogue_rules.specs.RoundTrip.{inTurn}
 use Rattle.catalogue_rules.specs.Edit.{isCard, withoutImage, withoutOldest, leaves, withoutVersion}
 use Rattle.catalogue_put.specs.Places.{cardPlace, fieldPlace}
@@ -31,11 +32,6 @@ module _ (turn : Turn) (f : Field) (fs : List Field) (t : inTurn turn (f ∷ fs)
 
   pub next-turn : inTurn (after turn f) fs ≡ true
   next-turn = and-right (not (isDamaged (after turn f))) (inTurn (after turn f) fs) behind-turn
-
--- A test that is not damage held.
-held : (b : Bool) (turn : Turn) → isDamaged (cond b turn Damaged) ≡ false → b ≡ true
-held true turn e = refl
-held false turn e = absurd (true≢false e)
 
 -- ---- the image behind a number
 

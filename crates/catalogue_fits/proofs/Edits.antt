@@ -1,19 +1,18 @@
 -- Each change answers the first of its tests that holds.
 -- Assumes nothing.
 use Prim.Native.Nat.{ℕ, _+_, _*_, _/_, _%_}
-use mathlib.Core.Path.{_≡_, refl, sym}
+use mathlib.Core.Path.{_≡_, refl}
 use mathlib.Core.Bool.{Bool, true, false, cond, _||_, not}
 use mathlib.Core.List.{List}
+use borrow.Author.Tests.{not-false}
 use lib.ListN.{length}
 use lib.Dec.{eqb, ltb}
-use Rattle.bits.proofs.Tests.{never}
 use Rattle.refusal.specs.declared.Refusal.{Refusal}
 use Rattle.refusal.specs.declared.Refusal.the-variants.{ArgumentOutside, LengthOutside, MakerWrong, ChecksumWrong, SecondaryWrong, NoSuchCard, NoPlace, ListedTwice}
 use Rattle.image_rules.specs.declared.Checked.{Checked}
 use Rattle.image_rules.specs.declared.Checked.the-variants as checked
 use Rattle.image_rules.specs.Image.{wordAt, checksumOf, secondaryOf, orRefused, checkOf}
-use Rattle.catalogue_rules.specs.Field.{Field}
-use Rattle.catalogue_rules.specs.Reading.{Reading, catalogue, parsed, read, hasRoom, addressesOf, isAmong, anyTwice, fileOf}
+use Rattle.catalogue_rules.specs.Reading.{Reading, parsed, read, hasRoom, addressesOf, isAmong, anyTwice, fileOf}
 use Rattle.catalogue_rules.specs.Archive.{addressesIn, movedOut}
 use Rattle.catalogue_rules.specs.Edit.{Change, bytes, orElse, onCatalogue, ifSound, whose, noPlace, isFor, anyFor, imagesIn, withAdded, addedTo, added, droppedFrom, dropped, allSound, imported, exported}
 use Rattle.catalogue_rules.specs.Put.{answerOf}
@@ -41,14 +40,10 @@ tried-or : (b : Bool) (why : Refusal) (c : Checked) → Tried (checked.Refused w
 tried-or true why c w t = t
 tried-or false why c w t = w
 
-is-128 : (b : Bool) → not b ≡ false → b ≡ true
-is-128 true e = refl
-is-128 false e = never (sym e)
-
 tried : (image : List ℕ) → not (eqb (length image) 128) ≡ false → Tried (checkOf image)
 unfolding checkOf
 tried image e =
-    rw (is-128 (eqb (length image) 128) e)
+    rw (not-false (eqb (length image) 128) e)
     (tried-or (eqb (wordAt image 0x07) 0x6D50) MakerWrong _ maker
     (tried-or (eqb (wordAt image 0x0F) (checksumOf image)) ChecksumWrong _ checksum
     (tried-or (eqb (wordAt image 0x17) (secondaryOf image)) SecondaryWrong _ secondary

@@ -5,3 +5,4 @@ pub mod Fits
 mod Lookups
 mod Places
 mod Readings
+mod Order

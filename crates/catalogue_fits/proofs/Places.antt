@@ -15,7 +15,7 @@ use Rattle.catalogue_rules.specs.Cards.{Version, versionsFrom, versionsAt}
 use Rattle.catalogue_rules.specs.declared.Place.{Place}
 use Rattle.catalogue_rules.specs.declared.Place.the-variants.{At, Refused}
 use Rattle.catalogue_rules.specs.Lookup.{Spot, spot, spotsFrom, spotsAt, lastSpot, numberedSpot, whereSound}
-use Rattle.catalogue_rules.proofs.Listed.{First, listed-has}
+use Rattle.catalogue_rules.proofs.Listed.{First, some, listed-has}
 use Rattle.catalogue_fits.specs.Tests.{because, isNumbered}
 use Rattle.catalogue_fits.specs.Fits.{ofPlace}
 use Rattle.catalogue_fits.proofs.Readings.{faults}
@@ -62,10 +62,6 @@ last-found : (room twice : Bool) (start len : ℕ) (ss : List Spot) → ofPlace 
 unfolding lastSpot
 last-found room twice start len [] = at-place room twice start len
 last-found room twice start len (s ∷ ss) = last-found room twice (s .start) (s .size) ss
-
-some : List Version → Bool
-some [] = false
-some (v ∷ vs) = true
 
 last-some : (room twice : Bool) {ss : List Spot} {vs : List Version} → Alike ss vs
     → ofPlace (whereSound room twice (lastSpot (Refused NoSuchCard) ss)) ≡ cond (not (some vs)) (because NoSuchCard) (faults room twice)

@@ -1,38 +1,21 @@
 -- The tests of each call of the catalogue in the order of request 9: 12, 2, then 15, 16, 17, 18, 19, then 8, 9, 10.
 -- Assumes nothing.
 use Prim.Native.Nat.{ℕ, _+_, _*_, _/_, _%_}
-use mathlib.Core.Bool.{Bool, false, cond, _&&_, _||_, not}
+use mathlib.Core.Bool.{Bool, false, _&&_, _||_, not}
 use mathlib.Core.List.{List, [], _∷_}
 use lib.ListN.{length}
 use lib.Dec.{eqb, ltb}
 use Rattle.refusal.specs.declared.Refusal.{Refusal}
 use Rattle.refusal.specs.declared.Refusal.the-variants.{LengthOutside, MakerWrong, ChecksumWrong, SecondaryWrong, ArgumentOutside, FieldDamaged, FileEndsEarly, NoSuchCard, NoPlace, ListedTwice}
 use Rattle.refusal.specs.Number.{numberOf}
+-- a test, a row of them, and the first that holds
+pub use Rattle.refusal.specs.Order.{Test, if, Outcome, fine, because, firstOf}
 use Rattle.image_rules.specs.Image.{checkOf}
 use Rattle.catalogue_rules.specs.Field.{Field}
 use Rattle.catalogue_rules.specs.Reading.{Reading, catalogue, refused, parsed, hasRoom, addressesOf, isAmong, anyTwice}
 use Rattle.catalogue_rules.specs.Cards.{Version, versionsAt}
 use Rattle.catalogue_rules.specs.Archive.{addressesIn}
 use Rattle.catalogue_rules.specs.Edit.{whose, noPlace, isFor, anyFor, imagesIn}
-
--- A test, with the refusal that it gives.
-pub record Test : Type 0 where
-  pub holds : Bool
-  pub gives : Refusal
-
--- What a call comes to: no refusal, or one.
-pub data Outcome : Type 0 where
-  fine : Outcome
-  because : Refusal → Outcome
-
--- The first that holds.
-abbrev pub firstOf : List Test → Outcome
-firstOf [] = fine
-firstOf (t ∷ ts) = cond (t .holds) (because (t .gives)) (firstOf ts)
-
--- A test that gives a refusal.
-abbrev pub if : Bool → Refusal → Test
-if b why = record { holds = b; gives = why }
 
 -- What a file is read as: refused for this reason; its fields, none where it is refused.
 abbrev pub isNo : Refusal → Reading → Bool

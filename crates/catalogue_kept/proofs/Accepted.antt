@@ -22,9 +22,10 @@ use Rattle.catalogue_rules.specs.RoundTrip.{WellFormed}
 use Rattle.catalogue_rules.proofs.Round.{written-is-read}
 use Rattle.catalogue_rules.specs.Archive.{addressIn, isSound}
 use Rattle.catalogue_rules.specs.Edit.{Change, bytes, orElse, ifSound, whose, noVersion, noCard, noPlace, versionFields, withVersion, withAdded, latestNumber, addedTo, withoutVersion, droppedFrom}
+use Rattle.catalogue_rules.proofs.Bools.{or-left, or-right}
 use Rattle.catalogue_kept.specs.Kept.{HasRoom, ChangesAreAccepted}
 use Rattle.catalogue_kept.proofs.Told.{Told, told, in-turn, sizes}
-use Rattle.catalogue_kept.proofs.Parts.{or-left, or-right, part-apart, part-length, apart-more, addresses-append}
+use Rattle.catalogue_kept.proofs.Parts.{part-apart, part-length, apart-more, addresses-append}
 use Rattle.catalogue_kept.proofs.Versions.{version-told, card-told, version-addresses, version-length}
 use Rattle.catalogue_kept.proofs.Drops.{dropped-told, dropped-addresses, dropped-length}
 

@@ -7,6 +7,7 @@ use mathlib.Core.List.{List, [], _∷_}
 use native.Mathlib.Omega.{arith}
 use lib.ListN.{length}
 use lib.Dec.{eqb}
+use Rattle.bits.proofs.Tests.{of-test}
 use Rattle.catalogue_rules.specs.Field.{Field, field}
 use Rattle.catalogue_rules.specs.declared.Turn.{Turn}
 use Rattle.catalogue_rules.specs.declared.Turn.the-variants.{Addressed, Numbered, Imaged}
@@ -14,9 +15,10 @@ use Rattle.catalogue_rules.specs.Turns.{addressOf, afterAddress}
 use Rattle.catalogue_rules.specs.Reading.{addressesOf}
 use Rattle.catalogue_rules.specs.Cards.{Version, versionsFrom}
 use Rattle.catalogue_rules.specs.Edit.{isCard, withoutImage, withoutOldest, leaves, withoutVersion}
+use Rattle.catalogue_rules.proofs.Bools.{no-if}
 use Rattle.catalogue_kept.proofs.Told.{Other, Told, ends, other, card, first, next, image, no-card, may-stop}
-use Rattle.catalogue_kept.proofs.Versions.{no-if, other-versions, not-card}
-use Rattle.catalogue_kept.proofs.Parts.{Part, all, either, same-behind, part-behind, without, no-address}
+use Rattle.catalogue_kept.proofs.Versions.{other-versions, not-card}
+use Rattle.catalogue_kept.proofs.Parts.{Part, all, same-behind, part-behind, without, no-address}
 
 -- ---- a lower place in the row of versions is as good
 
@@ -125,23 +127,23 @@ image-addresses : (fs : List Field) → addressesOf (withoutImage fs) ≡ addres
 unfolding withoutImage
 image-addresses [] = refl
 image-addresses (f ∷ fs) =
-    either (λ (l : List Field). addressesOf l ≡ addressesOf (f ∷ fs)) (eqb (f .tag) 3)
+    of-test (λ (l : List Field). addressesOf l ≡ addressesOf (f ∷ fs)) (eqb (f .tag) 3)
     (λ e. no-address 3 f fs e refl) (λ e. same-behind f (withoutImage fs) fs (image-addresses fs))
 
 pub oldest-addresses : (fs : List Field) → addressesOf (withoutOldest fs) ≡ addressesOf fs
 unfolding withoutOldest
 oldest-addresses [] = refl
 oldest-addresses (f ∷ fs) =
-    either (λ (l : List Field). addressesOf l ≡ addressesOf (f ∷ fs)) (eqb (f .tag) 2)
+    of-test (λ (l : List Field). addressesOf l ≡ addressesOf (f ∷ fs)) (eqb (f .tag) 2)
     (λ e. image-addresses fs ∙ no-address 2 f fs e refl) (λ e. same-behind f (withoutOldest fs) fs (oldest-addresses fs))
 
 pub dropped-addresses : (a : ℕ) (fs : List Field) → Part (addressesOf (withoutVersion a fs)) (addressesOf fs)
 unfolding withoutVersion
 dropped-addresses a [] = all
 dropped-addresses a (f ∷ fs) =
-    either (λ (l : List Field). Part (addressesOf l) (addressesOf (f ∷ fs))) (isCard a f)
+    of-test (λ (l : List Field). Part (addressesOf l) (addressesOf (f ∷ fs))) (isCard a f)
     (λ e.
-    either (λ (l : List Field). Part (addressesOf l) (addressesOf (f ∷ fs))) (leaves (versionsFrom 0 fs))
+    of-test (λ (l : List Field). Part (addressesOf l) (addressesOf (f ∷ fs))) (leaves (versionsFrom 0 fs))
     (λ c. subst (λ (l : List ℕ). Part l (addressesOf (f ∷ fs))) (sym (oldest-addresses fs)) (without f fs))
     (λ c. subst (λ (l : List ℕ). Part l (addressesOf (f ∷ fs))) (sym (same-behind f (withoutOldest fs) fs (oldest-addresses fs))) all))
     (λ e. part-behind f (withoutVersion a fs) fs (dropped-addresses a fs))
@@ -150,21 +152,21 @@ image-length : (fs : List Field) → length (withoutImage fs) ≤ length fs
 unfolding withoutImage
 image-length [] = omega arith
 image-length (f ∷ fs) =
-    either (λ (l : List Field). length l ≤ length (f ∷ fs)) (eqb (f .tag) 3) (λ e. omega arith) (λ e. omega (arith, image-length fs))
+    of-test (λ (l : List Field). length l ≤ length (f ∷ fs)) (eqb (f .tag) 3) (λ e. omega arith) (λ e. omega (arith, image-length fs))
 
 oldest-length : (fs : List Field) → length (withoutOldest fs) ≤ length fs
 unfolding withoutOldest
 oldest-length [] = omega arith
 oldest-length (f ∷ fs) =
-    either (λ (l : List Field). length l ≤ length (f ∷ fs)) (eqb (f .tag) 2)
+    of-test (λ (l : List Field). length l ≤ length (f ∷ fs)) (eqb (f .tag) 2)
     (λ e. omega (arith, image-length fs)) (λ e. omega (arith, oldest-length fs))
 
 pub dropped-length : (a : ℕ) (fs : List Field) → length (withoutVersion a fs) ≤ length fs
 unfolding withoutVersion
 dropped-length a [] = omega arith
 dropped-length a (f ∷ fs) =
-    either (λ (l : List Field). length l ≤ length (f ∷ fs)) (isCard a f)
+    of-test (λ (l : List Field). length l ≤ length (f ∷ fs)) (isCard a f)
     (λ e.
-    either (λ (l : List Field). length l ≤ length (f ∷ fs)) (leaves (versionsFrom 0 fs))
+    of-test (λ (l : List Field). length l ≤ length (f ∷ fs)) (leaves (versionsFrom 0 fs))
     (λ c. omega (arith, oldest-length fs)) (λ c. omega (arith, oldest-length fs)))
     (λ e. omega (arith, dropped-length a fs))

@@ -10,10 +10,9 @@ use Rattle.catalogue_rules.specs.Field.{Field, numberAt}
 use Rattle.catalogue_rules.specs.Turns.{addressOf}
 use Rattle.catalogue_rules.specs.Reading.{addressesOf, isAmong}
 use Rattle.catalogue_rules.specs.Cards.{Version, versionsFrom, versionsAt}
-use Rattle.catalogue_rules.proofs.Bools.{and-right}
+use Rattle.catalogue_rules.proofs.Bools.{and-right, or-left, or-right, yes-if, no-if}
+use Rattle.catalogue_rules.proofs.Seen.{among-is}
 use Rattle.catalogue_rules.specs.Edit.{isCard}
-use Rattle.catalogue_kept.proofs.Parts.{or-left, or-right}
-use Rattle.catalogue_kept.proofs.Versions.{no-if}
 
 abbrev pub version : ℕ → List ℕ → Version
 version n image = record { number = n; image = image }
@@ -21,13 +20,6 @@ version n image = record { number = n; image = image }
 two-tests : {A : Type 0} (one here : Bool) (x y : A) → cond one (cond here x y) y ≡ cond (one && here) x y
 two-tests true here x y = refl
 two-tests false here x y = refl
-
-among-if : (one : Bool) (a b : ℕ) (l : List ℕ) → isAmong a (cond one (b ∷ l) l) ≡ (one && eqb b a) || isAmong a l
-among-if true a b l = refl
-among-if false a b l = refl
-
-pub yes-if : {A : Type 0} (b : Bool) (x y : A) → b ≡ true → cond b x y ≡ x
-yes-if b x y e = rw e
 
 -- No card of one address is a card of another.
 pub another : (a b : ℕ) (f : Field) → (b ≡ a → ⊥) → isCard a f ≡ true → isCard b f ≡ false
@@ -51,12 +43,8 @@ module _ (f : Field) (fs : List Field) where
   pub at-past : (a : ℕ) → isCard a f ≡ false → versionsAt a (f ∷ fs) ≡ versionsAt a fs
   at-past a e = at-is a ∙ no-if (isCard a f) _ _ e
 
-  pub among-is : (a : ℕ) → isAmong a (addressesOf (f ∷ fs)) ≡ isCard a f || isAmong a (addressesOf fs)
-  unfolding addressesOf
-  among-is a = among-if (eqb (f .tag) 1) a (addressOf (f .value)) (addressesOf fs)
-
   pub among-past : (a : ℕ) → isCard a f ≡ false → isAmong a (addressesOf (f ∷ fs)) ≡ isAmong a (addressesOf fs)
-  among-past a e = among-is a ∙ ap (λ (t : Bool). t || isAmong a (addressesOf fs)) e
+  among-past a e = among-is f fs a ∙ ap (λ (t : Bool). t || isAmong a (addressesOf fs)) e
 
 -- Two rests that show the same, behind the same field.
 module _ (f : Field) (x y : List Field) where

@@ -19,8 +19,8 @@ use Rattle.catalogue_rules.proofs.Fit.{accepted-is-well-formed}
 use Rattle.catalogue_rules.specs.Archive.{movedIn, isSound, AllSound, addressesIn}
 use Rattle.catalogue_rules.proofs.OutAfter.{out-after-in}
 use Rattle.catalogue_rules.specs.Edit.{Change, bytes, onCatalogue, isFor, anyFor, withAdded, addedTo, added, withoutVersion, droppedFrom, dropped, imagesWithin, imagesIn, allSound, imported}
+use Rattle.catalogue_rules.proofs.Bools.{or-left, or-right}
 use Rattle.catalogue_kept.specs.Kept.{Becomes, WrittenIsTheChanged}
-use Rattle.catalogue_kept.proofs.Parts.{or-left, or-right}
 use Rattle.catalogue_kept.proofs.Accepted.{not-refused, same-bytes, WasAdded, was-added, added-again, WasDropped, was-dropped, dropped-again}
 
 -- ---- a file that was read

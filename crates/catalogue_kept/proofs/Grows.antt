@@ -12,12 +12,13 @@ use Rattle.catalogue_rules.specs.Field.{Field, field, numberAt}
 use Rattle.catalogue_rules.specs.Turns.{addressOf}
 use Rattle.catalogue_rules.specs.Reading.{addressesOf, isAmong}
 use Rattle.catalogue_rules.specs.Cards.{Version, versionsFrom, versionsAt}
-use Rattle.catalogue_rules.proofs.Bools.{and-left}
+use Rattle.catalogue_rules.proofs.Bools.{and-left, or-left, or-right, yes-if, no-if}
 use Rattle.catalogue_rules.specs.Archive.{addressIn}
 use Rattle.catalogue_rules.specs.Edit.{isCard, whose, versionFields, atCardsEnd, withVersion, withAdded, latestNumber}
-use Rattle.catalogue_kept.proofs.Parts.{or-left, or-right, addresses-append}
-use Rattle.catalogue_kept.proofs.Versions.{no-if, version-addresses}
-use Rattle.catalogue_kept.proofs.Fields.{version, yes-if, another, stop, at-card, at-past, among-is, among-past, from-behind, at-behind, none-at}
+use Rattle.catalogue_kept.proofs.Parts.{addresses-append}
+use Rattle.catalogue_kept.proofs.Versions.{version-addresses}
+use Rattle.catalogue_rules.proofs.Seen.{among-is}
+use Rattle.catalogue_kept.proofs.Fields.{version, another, stop, at-card, at-past, among-past, from-behind, at-behind, none-at}
 
 -- A version's number, as it is written, is read again.
 told-again : (n : ℕ) → n % 256 + 256 * (n / 256) ≡ n

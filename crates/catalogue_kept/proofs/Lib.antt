@@ -1,14 +1,16 @@
--- What a change writes is read as the changed catalogue, and what the lookups show behind it.
-pub mod Accepted
-pub mod Drops
-mod Examples
-mod Fields
-pub mod Files
-mod Grows
+-- Laws and worked examples.
+-- what a change writes
+pub mod Told
 pub mod Parts
+pub mod Versions
+pub mod Drops
+pub mod Accepted
+pub mod Files
+-- what the lookups show behind it
 mod Rows
-pub mod Shown
+mod Fields
+mod Grows
 mod Shrinks
 mod Stays
-pub mod Told
-pub mod Versions
+pub mod Shown
+mod Examples

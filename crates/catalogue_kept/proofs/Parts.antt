@@ -2,7 +2,7 @@
 -- Assumes nothing.
 use Prim.Native.Nat.{ℕ, _≤_}
 use mathlib.Core.Path.{_≡_, refl, sym, ap, _∙_}
-use mathlib.Core.Bool.{Bool, true, false, cond, _||_, true≢false}
+use mathlib.Core.Bool.{Bool, true, false, cond, _||_}
 use mathlib.Core.List.{List, [], _∷_, _++_}
 use native.Mathlib.Omega.{arith}
 use borrow.Author.Tests.{eqb-true, ne-eqb, eqb-false}
@@ -11,14 +11,7 @@ use lib.Dec.{eqb}
 use Rattle.catalogue_rules.specs.Field.{Field}
 use Rattle.catalogue_rules.specs.Turns.{addressOf}
 use Rattle.catalogue_rules.specs.Reading.{addressesOf, isAmong, anyTwice}
-
-pub or-left : (a b : Bool) → a || b ≡ false → a ≡ false
-or-left true b e = absurd (true≢false e)
-or-left false b e = refl
-
-pub or-right : (a b : Bool) → a || b ≡ false → b ≡ false
-or-right true b e = absurd (true≢false e)
-or-right false b e = e
+use Rattle.catalogue_rules.proofs.Bools.{or-left, or-right}
 
 or-none : (a b : Bool) → a ≡ false → b ≡ false → a || b ≡ false
 or-none a b d e = rw d e
@@ -67,11 +60,6 @@ apart-more a (b ∷ l) t n =
     (apart-more a l (or-right (isAmong b l) (anyTwice l) t) (or-right (eqb b a) (isAmong a l) n))
 
 -- ---- the addresses behind a field
-
--- One of two lists, by a test.
-pub either : (P : List Field → Type 0) (b : Bool) {x y : List Field} → (b ≡ true → P x) → (b ≡ false → P y) → P (cond b x y)
-either P true p q = p refl
-either P false p q = q refl
 
 module _ (f : Field) (x y : List Field) where
   pub same-behind : addressesOf x ≡ addressesOf y → addressesOf (f ∷ x) ≡ addressesOf (f ∷ y)

@@ -12,9 +12,8 @@ use Rattle.catalogue_rules.specs.Cards.{Version}
 use Rattle.catalogue_rules.specs.Lookup.{Shown, image, none}
 use Rattle.catalogue_rules.specs.Places.{lastOf, numberedIn}
 use Rattle.catalogue_rules.specs.Edit.{latestNumber, leaves}
-use Rattle.catalogue_kept.proofs.Versions.{no-if}
+use Rattle.catalogue_rules.proofs.Bools.{yes-if, no-if}
 use Rattle.catalogue_kept.specs.After.{oldestNumber}
-use Rattle.catalogue_kept.proofs.Fields.{yes-if}
 
 -- Each number is above the one before it; the first above n.
 unfoldable pub Above : ℕ → List Version → Type 0

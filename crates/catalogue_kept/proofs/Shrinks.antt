@@ -14,11 +14,10 @@ use Rattle.catalogue_rules.specs.declared.Turn.the-variants.{Begun, Addressed, 
 use Rattle.catalogue_rules.specs.Turns.{addressOf}
 use Rattle.catalogue_rules.specs.Reading.{addressesOf, isAmong, anyTwice}
 use Rattle.catalogue_rules.specs.Cards.{Version, versionsFrom, versionsAt}
-use Rattle.catalogue_rules.proofs.Bools.{and-left, and-right}
+use Rattle.catalogue_rules.proofs.Bools.{and-left, and-right, or-left, or-right, no-if}
 use Rattle.catalogue_rules.specs.Edit.{isCard, withoutImage, withoutOldest, leaves, withoutVersion}
 use Rattle.catalogue_kept.proofs.Told.{Other, Told, ends, other, card, first, next, image, no-card}
-use Rattle.catalogue_kept.proofs.Parts.{or-left, or-right}
-use Rattle.catalogue_kept.proofs.Versions.{no-if, other-versions, other-at, not-card}
+use Rattle.catalogue_kept.proofs.Versions.{other-versions, other-at, not-card}
 use Rattle.catalogue_kept.proofs.Drops.{other-image, other-oldest, oldest-addresses}
 use Rattle.catalogue_kept.proofs.Rows.{Above, Rise, later, none-later}
 use Rattle.catalogue_kept.proofs.Fields.{version, another, at-card, at-past, among-past, among-behind, at-behind, none-at}

@@ -7,6 +7,7 @@ use mathlib.Core.List.{List, [], _∷_, _++_}
 use native.Mathlib.Omega.{arith}
 use lib.ListN.{length}
 use lib.Dec.{eqb}
+use Rattle.bits.proofs.Tests.{of-test}
 use Rattle.catalogue_rules.specs.Field.{Field, field, numberAt}
 use Rattle.catalogue_rules.specs.declared.Turn.{Turn}
 use Rattle.catalogue_rules.specs.declared.Turn.the-variants.{Begun, Addressed, Numbered, Imaged, Damaged}
@@ -14,13 +15,12 @@ use Rattle.catalogue_rules.specs.Turns.{addressOf, afterAddress}
 use Rattle.catalogue_rules.specs.Reading.{addressesOf}
 use Rattle.catalogue_rules.specs.Cards.{Version, versionsFrom, versionsAt}
 use Rattle.catalogue_rules.specs.Edit.{versionFields, isCard, atCardsEnd, withVersion, latestNumber}
+use Rattle.catalogue_rules.proofs.Bools.{no-if}
+use Rattle.catalogue_rules.proofs.Versions.{latestFrom, latest-any}
 use Rattle.catalogue_kept.proofs.Told.{Other, Told, ends, other, card, first, next, image, no-card, may-begin}
-use Rattle.catalogue_kept.proofs.Parts.{either, same-behind}
+use Rattle.catalogue_kept.proofs.Parts.{same-behind}
 
 -- ---- unknown fields are passed
-
-pub no-if : {A : Type 0} (b : Bool) (x y : A) → b ≡ false → cond b x y ≡ y
-no-if b x y e = rw e
 
 pub other-versions : (n : ℕ) (f : Field) (fs : List Field) → Other f → versionsFrom n (f ∷ fs) ≡ versionsFrom n fs
 unfolding versionsFrom
@@ -34,20 +34,6 @@ pub not-card : (a : ℕ) (f : Field) → Other f → isCard a f ≡ false
 not-card a f o = ap (λ (b : Bool). b && eqb (addressOf (f .value)) a) (o .one)
 
 -- ---- the latest number
-
-pub latestFrom : ℕ → List Version → ℕ
-latestFrom n [] = n
-latestFrom n (v ∷ vs) = latestFrom (v .number) vs
-
-latest-is : (v : Version) (vs : List Version) → latestNumber (v ∷ vs) ≡ latestFrom (v .number) vs
-unfolding latestFrom latestNumber
-latest-is v [] = refl
-latest-is v (w ∷ vs) = latest-is w vs
-
-latest-any : (vs : List Version) → latestNumber vs ≡ latestFrom 0 vs
-unfolding latestFrom latestNumber
-latest-any [] = refl
-latest-any (v ∷ vs) = latest-is v vs
 
 -- Behind a number there is an image, so that its number counts.
 numbered : {nth n : ℕ} {fs : List Field} (m k : ℕ) → Told (Numbered nth n) fs → latestFrom m (versionsFrom n fs) ≡ latestFrom k (versionsFrom n fs)
@@ -144,26 +130,26 @@ module _ (new : ℕ) (bytes : List ℕ) where
   unfolding atCardsEnd addressesOf
   end-addresses [] = refl
   end-addresses (f ∷ fs) =
-      either (λ (l : List Field). addressesOf l ≡ addressesOf (f ∷ fs)) (eqb (f .tag) 1)
+      of-test (λ (l : List Field). addressesOf l ≡ addressesOf (f ∷ fs)) (eqb (f .tag) 1)
       (λ e. refl) (λ e. same-behind f (atCardsEnd (versionFields new bytes) fs) fs (end-addresses fs))
 
   pub version-addresses : (a : ℕ) (fs : List Field) → addressesOf (withVersion a (versionFields new bytes) fs) ≡ addressesOf fs
   unfolding withVersion
   version-addresses a [] = refl
   version-addresses a (f ∷ fs) =
-      either (λ (l : List Field). addressesOf l ≡ addressesOf (f ∷ fs)) (isCard a f)
+      of-test (λ (l : List Field). addressesOf l ≡ addressesOf (f ∷ fs)) (isCard a f)
       (λ e. same-behind f (atCardsEnd (versionFields new bytes) fs) fs (end-addresses fs)) (λ e. same-behind f (withVersion a (versionFields new bytes) fs) fs (version-addresses a fs))
 
   end-length : (fs : List Field) → length (atCardsEnd (versionFields new bytes) fs) ≤ length fs + 2
   unfolding atCardsEnd
   end-length [] = omega arith
   end-length (f ∷ fs) =
-      either (λ (l : List Field). length l ≤ length (f ∷ fs) + 2) (eqb (f .tag) 1)
+      of-test (λ (l : List Field). length l ≤ length (f ∷ fs) + 2) (eqb (f .tag) 1)
       (λ e. omega arith) (λ e. omega (arith, end-length fs))
 
   pub version-length : (a : ℕ) (fs : List Field) → length (withVersion a (versionFields new bytes) fs) ≤ length fs + 2
   unfolding withVersion
   version-length a [] = omega arith
   version-length a (f ∷ fs) =
-      either (λ (l : List Field). length l ≤ length (f ∷ fs) + 2) (isCard a f)
+      of-test (λ (l : List Field). length l ≤ length (f ∷ fs) + 2) (isCard a f)
       (λ e. omega (arith, end-length fs)) (λ e. omega (arith, version-length a fs))

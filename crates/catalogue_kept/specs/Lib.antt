@@ -1,3 +1,5 @@
 -- What a change writes is read as the changed catalogue, and what the lookups show behind it.
-pub mod After
+-- what a change writes
 pub mod Kept
+-- what the lookups show behind it
+pub mod After

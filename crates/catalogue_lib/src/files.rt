@@ -125,16 +125,8 @@ pub fn with_tail(path: &[u8], tail: &[u8]) -> [u8; 4096]
     ensures { λ r. ⌜ 4096 ≡ length r ⌝ }
 {
     let mut name = io::buffer();
-    let mut i = 0;
-    while i < path.len() {
-        name[i] = path[i];
-        i = i + 1;
-    }
-    let mut k = 0;
-    while k < tail.len() {
-        name[i + k] = tail[k];
-        k = k + 1;
-    }
+    let end = bytes::copy(path, &mut name);
+    bytes::copy(tail, &mut name[end..]);
     name
 }
 

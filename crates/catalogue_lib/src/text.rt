@@ -45,7 +45,7 @@ pub fn usage() {
 
 // Whether a file's name means standard input or output.
 pub fn is_dash(path: &[u8]) -> bool {
-    same(path, b"-")
+    check::same(path, b"-")
 }
 
 // The name of a file that is read.
@@ -183,20 +183,6 @@ pub fn cards(file: &[u8]) {
             }
         }
     }
-}
-
-pub fn same(a: &[u8], b: &[u8]) -> bool {
-    if a.len() != b.len() {
-        return false;
-    }
-    let mut i = 0;
-    while i < a.len() {
-        if a[i] != b[i] {
-            return false;
-        }
-        i = i + 1;
-    }
-    true
 }
 
 // A digit's value; 255 where it is none.

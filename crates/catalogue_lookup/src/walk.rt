@@ -6,33 +6,11 @@ ghost use lib.Dec.{eqb};
 ghost use Rattle.refusal.specs.declared.Refusal.the-variants.{NoSuchCard};
 ghost use Rattle.catalogue_rules.specs.Field.{fieldsOf, numberAt};
 ghost use Rattle.catalogue_rules.specs.Lookup.{spotsFrom, spotsAt, lastSpot, numberedSpot};
-ghost use Rattle.catalogue_rules.specs.LookupWalk.{spotsBehind};
 ghost use Rattle.catalogue_rules.specs.declared.Place.the-variants.{At, Refused};
 use catalogue_rules::Found;
 use catalogue_rules::Place;
 use catalogue_rules::Seek;
 use refusal::Refusal;
-
-// Where a card's fields begin.
-pub fn find_card(file: &[u8], address: u64) -> Seek
-    ensures { λ r. ⌜ spotsBehind (now (file .entry)) r ≡ spotsAt address 0 (fieldsOf (now (file .entry))) ⌝ }
-{
-    let mut at = 0;
-    loop {
-        match catalogue_read::field_at(file, at) {
-            Found::Cut => {
-                return Seek::Missing;
-            }
-            Found::Whole { tag, start, len } => {
-                let next = start + len;
-                if catalogue_read::is_address(file, tag, start, len, address) {
-                    return Seek::Behind(next);
-                }
-                at = next;
-            }
-        }
-    }
-}
 
 // An image is the newest so far.
 fn newer(best: Place, tag: u8, start: usize, len: usize) -> Place
@@ -70,7 +48,7 @@ pub fn newest(file: &[u8], from: usize) -> Place
 pub fn newest_at(file: &[u8], address: u64) -> Place
     ensures { λ r. ⌜ r ≡ lastSpot (Refused NoSuchCard) (spotsAt address 0 (fieldsOf (now (file .entry)))) ⌝ }
 {
-    match find_card(file, address) {
+    match catalogue_put::card_place(file, address) {
         Seek::Missing => Place::Refused(Refusal::NoSuchCard),
         Seek::Behind(at) => newest(file, at),
     }
@@ -115,7 +93,7 @@ fn numbered(file: &[u8], from: usize, number: u16) -> Place
 pub fn numbered_at(file: &[u8], address: u64, number: u16) -> Place
     ensures { λ r. ⌜ r ≡ numberedSpot number (spotsAt address 0 (fieldsOf (now (file .entry)))) ⌝ }
 {
-    match find_card(file, address) {
+    match catalogue_put::card_place(file, address) {
         Seek::Missing => Place::Refused(Refusal::NoSuchCard),
         Seek::Behind(at) => numbered(file, at, number),
     }

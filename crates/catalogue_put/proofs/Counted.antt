@@ -7,23 +7,11 @@ use mathlib.Core.List.{List, [], _∷_}
 use native.Mathlib.Omega.{arith}
 use lib.ListN.{length, take, drop}
 use lib.Dec.{eqb}
-use Rattle.catalogue_rules.specs.Field.{Field, field, numberAt, fieldsOf}
+use Rattle.catalogue_rules.specs.Field.{Field, numberAt, fieldsOf}
 use Rattle.catalogue_rules.proofs.At.{Stands}
 use Rattle.catalogue_rules.specs.FileWalk.{oneIf}
 use Rattle.catalogue_rules.specs.Cards.{Version, versionsFrom}
-use Rattle.catalogue_rules.proofs.Versions.{two-not-three, from-here, none-here}
-use Rattle.catalogue_rules.specs.Edit.{latestNumber}
-
--- The number of the last version, else what is given.
-unfoldable pub lastOr : ℕ → List Version → ℕ
-lastOr d [] = d
-lastOr d (v ∷ vs) = lastOr (v .number) vs
-
-pub latest-is : (vs : List Version) → lastOr 0 vs ≡ latestNumber vs
-unfolding lastOr latestNumber
-latest-is [] = refl
-latest-is (v ∷ []) = refl
-latest-is (v ∷ w ∷ vs) = latest-is (w ∷ vs)
+use Rattle.catalogue_rules.proofs.Versions.{latestFrom, two-not-three, from-here, none-here}
 
 -- How many there are does not hang on the numbers.
 length-if : (a b c : Bool) (n m : ℕ) (v : List ℕ) (one these those : List Version) → length these ≡ length those
@@ -48,9 +36,9 @@ counted-if false true k n v fs h = omega (arith, any-number fs n 0)
 counted-if false false k n v fs h = omega (arith, any-number fs n 0)
 
 last-if : (b c : Bool) (told number last : ℕ) (v : List ℕ) (fs : List Field) → (b ≡ true → c ≡ false)
-    → lastOr (cond c told last) (versionsFrom (cond b number told) fs)
-    ≡ lastOr last (cond b (versionsFrom number fs) (cond c (record { number = told; image = v } ∷ versionsFrom told fs) (versionsFrom told fs)))
-unfolding lastOr
+    → latestFrom (cond c told last) (versionsFrom (cond b number told) fs)
+    ≡ latestFrom last (cond b (versionsFrom number fs) (cond c (record { number = told; image = v } ∷ versionsFrom told fs) (versionsFrom told fs)))
+unfolding latestFrom
 last-if true true told number last v fs h = absurd (true≢false (h refl))
 last-if true false told number last v fs h = refl
 last-if false true told number last v fs h = refl
@@ -68,17 +56,17 @@ module _ (file : List ℕ) (at : ℕ) {tag start len : ℕ} (st : Stands file at
         ∙ counted-if (eqb tag 2) (eqb tag 3) (numberAt (take len (drop start file)) 0) 0 (take len (drop start file)) (fieldsOf (drop (start + len) file)) (two-not-three tag) in
         omega arith
 
-  module _ (told last whole : ℕ) (inv : lastOr last (versionsFrom told (fieldsOf (drop at file))) ≡ whole) where
+  module _ (told last whole : ℕ) (inv : latestFrom last (versionsFrom told (fieldsOf (drop at file))) ≡ whole) where
     pub last-end : tag ≡ 1 → last ≡ whole
-    unfolding lastOr
-    last-end one = ap (lastOr last) (sym (none-here file at st told one)) ∙ inv
+    unfolding latestFrom
+    last-end one = ap (latestFrom last) (sym (none-here file at st told one)) ∙ inv
 
     pub last-on : (tag ≡ 1 → ⊥) → {later due number : ℕ} → later ≡ cond (eqb tag 3) told last → number ≡ numberAt (take len (drop start file)) 0 → due ≡ cond (eqb tag 2) number told
-        → lastOr later (versionsFrom due (fieldsOf (drop (start + len) file))) ≡ whole
+        → latestFrom later (versionsFrom due (fieldsOf (drop (start + len) file))) ≡ whole
     last-on other l k d =
-        ap₂ (λ (x y : ℕ). lastOr x (versionsFrom y (fieldsOf (drop (start + len) file)))) l (d ∙ ap (λ (x : ℕ). cond (eqb tag 2) x told) k)
+        ap₂ (λ (x y : ℕ). latestFrom x (versionsFrom y (fieldsOf (drop (start + len) file)))) l (d ∙ ap (λ (x : ℕ). cond (eqb tag 2) x told) k)
         ∙ last-if (eqb tag 2) (eqb tag 3) told (numberAt (take len (drop start file)) 0) last (take len (drop start file)) (fieldsOf (drop (start + len) file)) (two-not-three tag)
-        ∙ ap (lastOr last) (sym (from-here file at st told other))
+        ∙ ap (latestFrom last) (sym (from-here file at st told other))
         ∙ inv
 
 pub counted-none : (here : List ℕ) (n whole : ℕ) → fieldsOf here ≡ [] → n + length (versionsFrom 0 (fieldsOf here)) ≡ whole → n ≡ whole
@@ -86,9 +74,9 @@ unfolding versionsFrom
 counted-none here n whole none inv =
     let e : length (versionsFrom 0 (fieldsOf here)) ≡ 0 = ap (λ (fs : List Field). length (versionsFrom 0 fs)) none in omega arith
 
-pub last-none : (here : List ℕ) (told last whole : ℕ) → fieldsOf here ≡ [] → lastOr last (versionsFrom told (fieldsOf here)) ≡ whole → last ≡ whole
-unfolding versionsFrom lastOr
-last-none here told last whole none inv = ap (λ (fs : List Field). lastOr last (versionsFrom told fs)) (sym none) ∙ inv
+pub last-none : (here : List ℕ) (told last whole : ℕ) → fieldsOf here ≡ [] → latestFrom last (versionsFrom told (fieldsOf here)) ≡ whole → last ≡ whole
+unfolding versionsFrom latestFrom
+last-none here told last whole none inv = ap (λ (fs : List Field). latestFrom last (versionsFrom told fs)) (sym none) ∙ inv
 
 pub one-most : (b : Bool) → oneIf b ≤ 1
 one-most true = omega arith

@@ -1,6 +1,5 @@
 // Tagged fields in a lent area: one-byte tag, two-byte length with its low byte first, then the value.
 ghost use mathlib.Core.Path.{_≡_};
-ghost use Prim.Native.Nat.{_+_, _*_};
 ghost use lib.ListN.{getD, take, drop};
 ghost use Rattle.catalogue_rules.specs.Field.{numberAt, foundAt};
 use catalogue_rules::Found;
@@ -15,13 +14,6 @@ pub fn byte_at(file: &[u8], at: usize) -> u8
     0
 }
 
-// Two bytes as a number.
-pub fn pair(low: u8, high: u8) -> u16
-    ensures { λ r. ⌜ r ≡ low + 256 * high ⌝ }
-{
-    (low as u16) + 256 * (high as u16)
-}
-
 // The field at a place.
 pub fn field_at(file: &[u8], at: usize) -> Found
     ensures { λ r. ⌜ r ≡ foundAt (now (file .entry)) at ⌝ }
@@ -34,7 +26,7 @@ pub fn field_at(file: &[u8], at: usize) -> Found
         return Found::Cut;
     }
     let start = at + 3;
-    let len = pair(byte_at(file, at + 1), byte_at(file, at + 2)) as usize;
+    let len = bits::pair(byte_at(file, at + 2), byte_at(file, at + 1)) as usize;
     if all - start < len {
         return Found::Cut;
     }
@@ -65,8 +57,8 @@ pub fn value_byte(file: &[u8], start: usize, len: usize, i: usize) -> u8
 pub fn value_number(file: &[u8], start: usize, len: usize) -> u16
     ensures { λ r. ⌜ r ≡ numberAt (take len (drop start (now (file .entry)))) 0 ⌝ }
 {
-    pair(
-        value_byte(file, start, len, 0),
+    bits::pair(
         value_byte(file, start, len, 1),
+        value_byte(file, start, len, 0),
     )
 }

@@ -12,6 +12,7 @@ use lib.Dec.{eqb}
 use Rattle.refusal.specs.declared.Refusal.{Refusal}
 use Rattle.image_rules.specs.Image.{checkOf}
 use Rattle.catalogue_rules.specs.Turns.{addressOf}
+use Rattle.catalogue_rules.proofs.Bools.{or-yes, or-no}
 use Rattle.catalogue_rules.specs.Reading.{isAmong, anyTwice}
 use Rattle.catalogue_rules.specs.Archive.{addressIn, addressesIn}
 use Rattle.catalogue_rules.specs.Edit.{imagesWithin, isFor, anyFor}
@@ -30,12 +31,6 @@ pub no-image : (row : List ℕ) (left : ℕ) → left ≤ 0 → imagesWithin lef
 unfolding imagesWithin
 no-image row zero none = refl
 no-image row (suc n) none = absurd (omega arith)
-
-or-yes : (a b : Bool) → a ≡ true → true ≡ a || b
-or-yes a b e = rw e
-
-or-no : (a b : Bool) → a ≡ false → b ≡ a || b
-or-no a b e = rw e
 
 -- The part of the archive that is lent to the check.
 pub so-many : (row : List ℕ) (at : ℕ) → take (at + 128 - at) (drop at row) ≡ here row at
@@ -66,10 +61,10 @@ module _ (row : List ℕ) (at left : ℕ) (some : 0 < left) where
         ∙ inv
 
     pub listed-here : x ≡ a → true ≡ whole
-    listed-here e = or-yes (eqb x a) _ (eq-eqb x a e) ∙ step
+    listed-here e = sym (or-yes (eqb x a) _ (eq-eqb x a e)) ∙ step
 
     pub listed-later : (x ≡ a → ⊥) → isAmong a (addressesIn (imagesWithin (left - 1) (drop (at + 128) row))) ≡ whole
-    listed-later e = or-no (eqb x a) _ (ne-eqb x a e) ∙ step
+    listed-later e = sym (or-no (eqb x a) _ (ne-eqb x a e)) ∙ step
 
   module _ (x : ℕ) (is : x ≡ addressOf (addressIn (here row at))) (t : Bool) (again : t ≡ isAmong x (addressesIn (imagesWithin (left - 1) (drop (at + 128) row))))
       {whole : Bool} (inv : anyTwice (addressesIn (imagesWithin left (drop at row))) ≡ whole) where
@@ -81,10 +76,10 @@ module _ (row : List ℕ) (at left : ℕ) (some : 0 < left) where
         ∙ inv
 
     pub twice-here : t ≡ true → true ≡ whole
-    twice-here e = or-yes t _ e ∙ twice-step
+    twice-here e = sym (or-yes t _ e) ∙ twice-step
 
     pub twice-later : t ≡ false → anyTwice (addressesIn (imagesWithin (left - 1) (drop (at + 128) row))) ≡ whole
-    twice-later e = or-no t _ e ∙ twice-step
+    twice-later e = sym (or-no t _ e) ∙ twice-step
 
   module _ (why : Refusal) (t : Bool) (is : t ≡ isFor why (checkOf (here row at))) {whole : Bool} (inv : anyFor why (imagesWithin left (drop at row)) ≡ whole) where
     for-step : t || anyFor why (imagesWithin (left - 1) (drop (at + 128) row)) ≡ whole
@@ -95,7 +90,7 @@ module _ (row : List ℕ) (at left : ℕ) (some : 0 < left) where
         ∙ inv
 
     pub for-here : t ≡ true → true ≡ whole
-    for-here e = or-yes t _ e ∙ for-step
+    for-here e = sym (or-yes t _ e) ∙ for-step
 
     pub for-later : t ≡ false → anyFor why (imagesWithin (left - 1) (drop (at + 128) row)) ≡ whole
-    for-later e = or-no t _ e ∙ for-step
+    for-later e = sym (or-no t _ e) ∙ for-step

@@ -2,7 +2,7 @@
 -- Assumes nothing.
 use Prim.Native.Nat.{ℕ, _≤_, _<_}
 use mathlib.Core.Path.{_≡_, refl, sym, ap, ap₂, subst, _∙_}
-use mathlib.Core.Bool.{Bool, true, false, cond, _&&_, not, true≢false}
+use mathlib.Core.Bool.{true, false, cond, _&&_, not}
 use mathlib.Core.List.{List, [], _∷_, _++_}
 use native.Mathlib.Omega.{arith}
 use borrow.Author.Tests.{eqb-true, not-true, lt-ltb, le-ltb}
@@ -28,13 +28,10 @@ use Rattle.catalogue_rules.specs.Edit.{onCatalogue, bytes, no, exported}
 use Rattle.catalogue_rules.specs.declared.Written as answer
 use Rattle.catalogue_row.specs.Row.{Images}
 use Rattle.catalogue_rules.specs.PutContracts.{Writes}
-use Rattle.catalogue_row.proofs.Ways.{refusing, or-else, or-on}
+use Rattle.catalogue_rules.proofs.Changes.{or-else, or-on, refusing}
+use Rattle.catalogue_rules.proofs.Turning.{held}
 
 -- ---- an image in turn has 128 bytes
-
-size-if : (b : Bool) (turn : Turn) → isDamaged (cond b turn Damaged) ≡ false → b ≡ true
-size-if true turn e = refl
-size-if false turn e = absurd (true≢false e)
 
 image-size : (turn : Turn) (f : Field) → isDamaged (after turn f) ≡ false → f .tag ≡ 3 → length (f .value) ≡ 128
 unfolding after
@@ -44,7 +41,7 @@ image-size turn f d e =
     cond (eqb t 1) (cond (eqb (length (f .value)) 6) (afterAddress turn) Damaged)
     (cond (eqb t 2) (cond (eqb (length (f .value)) 2) (afterNumber turn (numberAt (f .value) 0)) Damaged)
     (cond (eqb t 3) (cond (eqb (length (f .value)) 128) (afterImage turn) Damaged) turn))) e in
-    eqb-true (length (f .value)) 128 (size-if (eqb (length (f .value)) 128) (afterImage turn) (ap isDamaged (sym a) ∙ d))
+    eqb-true (length (f .value)) 128 (held (eqb (length (f .value)) 128) (afterImage turn) (ap isDamaged (sym a) ∙ d))
 
 turn-images : (turn : Turn) (fs : List Field) → inTurn turn fs ≡ true → Images fs
 unfolding inTurn Images

@@ -18,6 +18,7 @@ use Rattle.catalogue_rules.specs.Lookup.{Shown, image, none, bytesIn}
 use Rattle.catalogue_rules.specs.Places.{lastOf}
 use Rattle.catalogue_rules.specs.Archive.{rowOf, latestOf, imagesOf, movedOut}
 use Rattle.catalogue_rules.specs.Put.{putAt}
+use Rattle.catalogue_rules.proofs.Bools.{yes-if, no-if}
 use Rattle.catalogue_rules.proofs.Chain.{length-put, put-on}
 use Rattle.catalogue_row.specs.Row.{Images, ofField}
 
@@ -64,19 +65,13 @@ card-short fs s = latest-short (versionsFrom 0 fs) (versions-short fs 0 s)
 
 -- ---- what one field adds
 
-cond-yes : (b : Bool) (x y : List ℕ) → b ≡ true → cond b x y ≡ x
-cond-yes b x y e = rw e
-
-cond-no : (b : Bool) (x y : List ℕ) → b ≡ false → cond b x y ≡ y
-cond-no b x y e = rw e
-
 of-card : (tag : ℕ) (fs : List Field) → tag ≡ 1 → ofField tag fs ≡ latestOf (versionsFrom 0 fs)
 unfolding ofField
-of-card tag fs e = cond-yes (eqb tag 1) _ _ (eq-eqb tag 1 e)
+of-card tag fs e = yes-if (eqb tag 1) _ _ (eq-eqb tag 1 e)
 
 of-other : (tag : ℕ) (fs : List Field) → (tag ≡ 1 → ⊥) → ofField tag fs ≡ []
 unfolding ofField
-of-other tag fs e = cond-no (eqb tag 1) _ _ (ne-eqb tag 1 e)
+of-other tag fs e = no-if (eqb tag 1) _ _ (ne-eqb tag 1 e)
 
 row-if : (b : Bool) (c : Card) (cards : List Card) → rowOf (imagesOf (cond b (c ∷ cards) cards)) ≡ cond b (latestOf (c .versions)) [] ++ rowOf (imagesOf cards)
 unfolding imagesOf rowOf

@@ -7,28 +7,13 @@ use mathlib.Core.List.{List}
 use borrow.Author.Tests.{lt-ltb, le-ltb, eq-eqb, ne-eqb}
 use lib.ListN.{length}
 use lib.Dec.{eqb, ltb}
-use Rattle.refusal.specs.declared.Refusal.{Refusal}
 use Rattle.refusal.specs.declared.Refusal.the-variants.{LengthOutside, ArgumentOutside, MakerWrong, ChecksumWrong, SecondaryWrong, NoPlace, ListedTwice}
 use Rattle.catalogue_rules.specs.Reading.{anyTwice, fileOf}
 use Rattle.catalogue_rules.specs.Archive.{movedIn, addressesIn}
-use Rattle.catalogue_rules.specs.Edit.{Change, bytes, no, orElse, imagesWithin, imagesIn, anyFor, allSound, imported}
-use Rattle.catalogue_rules.specs.declared.Written.the-variants.{Bytes, Refused}
-use Rattle.catalogue_rules.specs.Put.{putAt, answerOf, areaAfter}
+use Rattle.catalogue_rules.specs.Edit.{Change, bytes, orElse, imagesWithin, imagesIn, anyFor, allSound, imported}
+use Rattle.catalogue_rules.specs.declared.Written.the-variants.{Refused}
 use Rattle.catalogue_rules.specs.PutContracts.{Writes}
-use Rattle.catalogue_rules.proofs.Chain.{put-front}
-
-pub refusing : (change : Change) (why : Refusal) → change ≡ no why → (area : List ℕ) → Writes change (Refused why) area area
-refusing change why e area = (ap answerOf (sym e), ap (λ (c : Change). areaAfter c area) (sym e))
-
-pub writing : (change : Change) (file : List ℕ) → change ≡ bytes file → (area after : List ℕ) (r : ℕ) → r ≡ length file → after ≡ putAt area 0 file → Writes change (Bytes r) area after
-writing change file e area after r n p =
-    (ap Bytes n ∙ ap answerOf (sym e), p ∙ put-front area file ∙ ap (λ (c : Change). areaAfter c area) (sym e))
-
-pub or-else : (t : Bool) (why : Refusal) (rest : Change) → t ≡ true → orElse t why rest ≡ no why
-or-else t why rest e = rw e
-
-pub or-on : (t : Bool) (why : Refusal) (rest : Change) → t ≡ false → orElse t why rest ≡ rest
-or-on t why rest e = rw e
+use Rattle.catalogue_rules.proofs.Changes.{or-else, or-on, refusing}
 
 module _ (area row : List ℕ) where
   pub short : length area < 145 * (length row / 128) + 5 → Writes (imported (length area) row) (Refused ArgumentOutside) area area

@@ -70,9 +70,6 @@ module _ (file : List ℕ) (fs : List Field) (e : read file ≡ catalogue fs) wh
   unfolding read
   was-read = roomy-only (parsed file) fs e
 
-  pub versions-read : (a : ℕ) → versionsAt a (fieldsOf file) ≡ versionsAt a fs
-  versions-read = versions-parsed file fs was-read
-
   pub addresses-read : addressesOf (fieldsOf file) ≡ addressesOf fs
   addresses-read = addresses-parsed file fs was-read
 

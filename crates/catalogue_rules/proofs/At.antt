@@ -8,7 +8,7 @@ use native.Mathlib.Omega.{arith}
 use lib.ListN.{length, getD, take, drop, length-drop, length-take}
 use lib.Seq.{getD-drop, drop-drop}
 use Rattle.catalogue_rules.specs.declared.Found.the-variants.{Whole, Cut}
-use Rattle.catalogue_rules.specs.Field.{Field, field, numberAt, isWhole, first, behind, fieldsOf, leftOf, foundIf, foundAt}
+use Rattle.catalogue_rules.specs.Field.{Field, field, numberAt, isWhole, behind, fieldsOf, leftOf, foundIf, foundAt}
 use Rattle.catalogue_rules.proofs.Runs.{whole-fits, is-whole, is-cut, fields-step, left-step, fields-stop, left-stop}
 
 module _ (file : List ℕ) (at : ℕ) where
@@ -23,9 +23,9 @@ module _ (file : List ℕ) (at : ℕ) where
       let e : length (drop at file) < 3 = simp length-drop (omega arith) in
       cut (is-cut (drop at file) (omega arith))
 
-  module _ {low high len : ℕ} (l : low ≡ getD file (at + 1) 0) (h : high ≡ getD file (at + 2) 0) (n : len ≡ low + 256 * high) (room : at + 3 ≤ length file) where
+  module _ {low high len : ℕ} (l : low ≡ getD file (at + 1) 0) (h : high ≡ getD file (at + 2) 0) (n : len ≡ high * 256 + low) (room : at + 3 ≤ length file) where
     len-at : len ≡ numberAt (drop at file) 1
-    len-at = n ∙ ap₂ (λ (a b : ℕ). a + 256 * b) l h ∙ sym length-at
+    len-at = let q : len ≡ low + 256 * high = omega arith in q ∙ ap₂ (λ (a b : ℕ). a + 256 * b) l h ∙ sym length-at
 
     pub cut-value : length file - (at + 3) < len → Cut ≡ foundAt file at
     cut-value short = cut (is-cut (drop at file) (simp length-drop (omega (arith, len-at))))

@@ -1,8 +1,8 @@
 -- Bytes put one behind the other are their concatenation, put at once.
 -- Assumes nothing.
 use Prim.Native.Nat.{ℕ, _+_, _-_, _/_, _%_, _≤_}
-use mathlib.Core.Path.{_≡_, refl, sym, ap, ap₂, _∙_}
-use mathlib.Core.List.{List, [], _∷_, _++_, append-assoc}
+use mathlib.Core.Path.{_≡_, sym, ap, ap₂, _∙_}
+use mathlib.Core.List.{List, [], _∷_, _++_, append-assoc, append-nil}
 use native.Mathlib.Omega.{arith}
 use lib.ListN.{length, take, drop, length-append, length-drop}
 use lib.Seq.{paste, take-length, take-at, drop-at, drop-drop, length-take-le}
@@ -59,13 +59,6 @@ put-front area those =
     let z : 0 + length those ≡ length those = omega arith in
     ap (λ (k : ℕ). those ++ drop k area) z
 
-pub put-behind : (area these those : List ℕ) → length these + length those ≤ length area
-    → putAt (putAt area 0 these) (length these) those ≡ putAt area 0 (these ++ those)
-put-behind area these those fits =
-    let z : length these ≡ 0 + length these = omega arith in
-    ap (λ (k : ℕ). putAt (putAt area 0 these) k those) z
-    ∙ put-on area 0 these those (omega arith)
-
 -- Two puts, one behind the other.
 pub both-put : (area : List ℕ) (at : ℕ) (these those : List ℕ) {mid last : List ℕ} {behind : ℕ} → at + (length these + length those) ≤ length area
     → behind ≡ at + length these → mid ≡ putAt area at these → last ≡ putAt mid behind those → last ≡ putAt area at (these ++ those)
@@ -73,15 +66,11 @@ both-put area at these those fits n e f =
     f ∙ ap₂ (λ (m : List ℕ) (k : ℕ). putAt m k those) e n ∙ put-on area at these those fits
 
 -- The bytes of a version's two fields.
-append-none : (l : List ℕ) → l ++ [] ≡ l
-append-none [] = refl
-append-none (x ∷ l) = ap (λ (t : List ℕ). x ∷ t) (append-none l)
-
 pub version-bytes : (n : ℕ) (image : List ℕ) → length image ≡ 128
     → (2 ∷ 2 ∷ 0 ∷ n % 256 ∷ n / 256 ∷ 3 ∷ 128 ∷ 0 ∷ []) ++ image ≡ bytesOf (versionFields n image)
 unfolding bytesOf
 version-bytes n image e =
-    ap (λ (l : List ℕ). 2 ∷ 2 ∷ 0 ∷ n % 256 ∷ n / 256 ∷ 3 ∷ 128 ∷ 0 ∷ l) (sym (append-none image))
+    ap (λ (l : List ℕ). 2 ∷ 2 ∷ 0 ∷ n % 256 ∷ n / 256 ∷ 3 ∷ 128 ∷ 0 ∷ l) (sym (append-nil image))
     ∙ ap (λ (k : ℕ). 2 ∷ 2 ∷ 0 ∷ n % 256 ∷ n / 256 ∷ 3 ∷ k % 256 ∷ k / 256 ∷ (image ++ [])) (sym e)
 
 pub version-length : (n : ℕ) (image : List ℕ) → length image ≡ 128 → length (bytesOf (versionFields n image)) ≡ 136

@@ -2,14 +2,15 @@
 -- Assumes nothing.
 use Prim.Native.Nat.{ℕ}
 use mathlib.Core.Path.{_≡_, refl, sym, ap, _∙_}
-use mathlib.Core.Bool.{Bool, true, false, cond, _&&_, _||_, false≢true}
+use mathlib.Core.Bool.{Bool, true, false, cond}
 use mathlib.Core.List.{List, [], _∷_, _++_}
 use lib.Dec.{eqb}
 use Rattle.catalogue_rules.specs.Field.{Field, field}
 use Rattle.catalogue_rules.specs.Turns.{addressOf}
 use Rattle.catalogue_rules.specs.Cards.{versionsFrom}
 use Rattle.catalogue_rules.specs.Edit.{versionFields, isCard, atCardsEnd, withVersion, withoutImage, withoutOldest, leaves, withoutVersion}
-use Rattle.catalogue_rules.specs.Unknown.{isKnown, unknownOf, Stay, UnknownFieldsStay}
+use Rattle.catalogue_rules.proofs.Bools.{and-left, or-yes, or-second}
+use Rattle.catalogue_rules.specs.Unknown.{isKnown, unknownOf, UnknownFieldsStay}
 
 -- A field before two lists with the same unknown fields.
 before : (f : Field) (x y : List Field) → unknownOf x ≡ unknownOf y → unknownOf (f ∷ x) ≡ unknownOf (f ∷ y)
@@ -20,25 +21,6 @@ before f x y e = ap (λ (l : List Field). cond (isKnown f) l (f ∷ l)) e
 known : (f : Field) (x : List Field) → isKnown f ≡ true → unknownOf x ≡ unknownOf (f ∷ x)
 unfolding unknownOf
 known f x e = ap (λ (b : Bool). cond b (unknownOf x) (f ∷ unknownOf x)) (sym e)
-
-or-first : (a b c : Bool) → a ≡ true → a || (b || c) ≡ true
-or-first true b c e = refl
-or-first false b c e = absurd (false≢true e)
-
-or-second : (a b c : Bool) → b ≡ true → a || (b || c) ≡ true
-or-second true b c e = refl
-or-second false true c e = refl
-or-second false false c e = absurd (false≢true e)
-
-or-third : (a b c : Bool) → c ≡ true → a || (b || c) ≡ true
-or-third true b c e = refl
-or-third false true c e = refl
-or-third false false true e = refl
-or-third false false false e = absurd (false≢true e)
-
-and-first : (a b : Bool) → a && b ≡ true → a ≡ true
-and-first true b e = refl
-and-first false b e = e
 
 either : (b : Bool) (x y z : List Field) → (b ≡ true → unknownOf x ≡ unknownOf z) → (b ≡ false → unknownOf y ≡ unknownOf z) → unknownOf (cond b x y) ≡ unknownOf z
 either true x y z p q = p refl
@@ -73,14 +55,14 @@ unfolding withoutImage
 image-stay [] = refl
 image-stay (f ∷ fs) =
     either (eqb (f .tag) 3) fs (f ∷ withoutImage fs) (f ∷ fs)
-    (λ e. known f fs (or-third (eqb (f .tag) 1) (eqb (f .tag) 2) (eqb (f .tag) 3) e)) (λ e. before f (withoutImage fs) fs (image-stay fs))
+    (λ e. known f fs (or-second (eqb (f .tag) 1) _ (or-second (eqb (f .tag) 2) (eqb (f .tag) 3) e))) (λ e. before f (withoutImage fs) fs (image-stay fs))
 
 oldest-stay : (fs : List Field) → unknownOf (withoutOldest fs) ≡ unknownOf fs
 unfolding withoutOldest
 oldest-stay [] = refl
 oldest-stay (f ∷ fs) =
     either (eqb (f .tag) 2) (withoutImage fs) (f ∷ withoutOldest fs) (f ∷ fs)
-    (λ e. image-stay fs ∙ known f fs (or-second (eqb (f .tag) 1) (eqb (f .tag) 2) (eqb (f .tag) 3) e)) (λ e. before f (withoutOldest fs) fs (oldest-stay fs))
+    (λ e. image-stay fs ∙ known f fs (or-second (eqb (f .tag) 1) _ (or-yes (eqb (f .tag) 2) (eqb (f .tag) 3) e))) (λ e. before f (withoutOldest fs) fs (oldest-stay fs))
 
 dropped-stay : (a : ℕ) (fs : List Field) → unknownOf (withoutVersion a fs) ≡ unknownOf fs
 unfolding withoutVersion
@@ -89,7 +71,7 @@ dropped-stay a (f ∷ fs) =
     either (isCard a f) (cond (leaves (versionsFrom 0 fs)) (withoutOldest fs) (f ∷ withoutOldest fs)) (f ∷ withoutVersion a fs) (f ∷ fs)
     (λ e.
     either (leaves (versionsFrom 0 fs)) (withoutOldest fs) (f ∷ withoutOldest fs) (f ∷ fs)
-    (λ l. oldest-stay fs ∙ known f fs (or-first (eqb (f .tag) 1) (eqb (f .tag) 2) (eqb (f .tag) 3) (and-first (eqb (f .tag) 1) (eqb (addressOf (f .value)) a) e)))
+    (λ l. oldest-stay fs ∙ known f fs (or-yes (eqb (f .tag) 1) _ (and-left (eqb (f .tag) 1) (eqb (addressOf (f .value)) a) e)))
     (λ l. before f (withoutOldest fs) fs (oldest-stay fs)))
     (λ e. before f (withoutVersion a fs) fs (dropped-stay a fs))
 

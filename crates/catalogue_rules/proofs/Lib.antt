@@ -1,31 +1,39 @@
--- The catalogue: tagged fields, a file's meaning and its check, the round trips, looking cards up, archives, the changes, and what a change writes.
-pub mod Accepted
-pub mod Append
-mod ArchiveExamples
-pub mod At
-mod Back
-pub mod Bools
-pub mod Came
-mod CatalogueFileExamples
-mod CatalogueLawsExamples
-mod CatalogueLookupExamples
-pub mod Chain
-mod ChangesExamples
-pub mod Checked
-pub mod Closes
-pub mod Fit
-pub mod Kept
-pub mod Listed
-pub mod OutAfter
-pub mod Parts
-pub mod Round
+-- Laws and worked examples.
+-- tagged fields
 pub mod Runs
-pub mod Seen
-pub mod Shows
-pub mod Spots
-pub mod Turning
+pub mod At
 pub mod Values
-pub mod Versions
+pub mod Append
+-- a file: its meaning and its check
+pub mod Bools
+pub mod Turning
 pub mod Walks
-pub mod Ways
+pub mod Came
+pub mod Closes
+pub mod Seen
+pub mod Checked
+mod CatalogueFileExamples
+-- what is proved of a file
 pub mod WrittenBack
+mod Back
+pub mod Round
+pub mod Fit
+mod CatalogueLawsExamples
+-- looking cards up
+pub mod Versions
+pub mod Spots
+pub mod Accepted
+pub mod Listed
+pub mod Shows
+pub mod Ways
+pub mod Parts
+mod CatalogueLookupExamples
+-- today's archive, moved in and written out
+pub mod OutAfter
+mod ArchiveExamples
+-- the changes
+pub mod Changes
+pub mod Kept
+mod ChangesExamples
+-- what a change writes
+pub mod Chain

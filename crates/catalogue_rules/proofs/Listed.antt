@@ -24,7 +24,7 @@ due (Numbered nth number) = true
 due (Imaged nth number) = false
 due Damaged = false
 
-some : List Version → Bool
+unfoldable pub some : List Version → Bool
 some [] = false
 some (v ∷ vs) = true
 

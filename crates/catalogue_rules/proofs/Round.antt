@@ -1,23 +1,22 @@
 -- The two round trips. Fields in turn are read to the end; and what is read is the fields before a right count, with nothing behind it.
 -- Assumes nothing.
-use Prim.Native.Nat.{ℕ, zero, suc, _+_, _*_, _/_, _%_, _≤_, _<_}
-use mathlib.Core.Path.{_≡_, refl, sym, ap, ap₂, subst, _∙_}
-use mathlib.Core.Bool.{Bool, true, false, cond, _&&_, not, false≢true}
-use mathlib.Core.List.{List, [], _∷_, _++_}
+use Prim.Native.Nat.{ℕ, suc, _+_, _*_, _/_, _%_, _≤_, _<_}
+use mathlib.Core.Path.{_≡_, sym, ap, ap₂, subst, _∙_}
+use mathlib.Core.Bool.{Bool, true, false, cond, _&&_, not}
+use mathlib.Core.List.{List, [], _∷_, _++_, append-nil}
 use native.Mathlib.Omega.{arith}
-use borrow.Author.Tests.{eq-eqb, eqb-true, le-leb, leb-true, not-true}
-use lib.ListN.{length, getD}
-use lib.Dec.{eqb, leb}
-use Rattle.refusal.specs.declared.Refusal.{Refusal}
+use borrow.Author.Tests.{eq-eqb, le-leb, not-true}
+use lib.ListN.{length}
+use lib.Dec.{eqb}
 use Rattle.refusal.specs.declared.Refusal.the-variants.{FieldDamaged}
 use Rattle.catalogue_rules.specs.Field.{Field, field, bytesOf, numberAt, fieldsOf, leftOf}
 use Rattle.catalogue_rules.specs.declared.Turn.{Turn}
 use Rattle.catalogue_rules.specs.declared.Turn.the-variants.{Begun}
 use Rattle.catalogue_rules.specs.Turns.{after, mayEnd, isDamaged}
-use Rattle.catalogue_rules.specs.Reading.{Reading, catalogue, refused, with, isLast, ends, reading, countField, fileOf, addressesOf, anyTwice, roomy, read}
-use Rattle.catalogue_rules.proofs.Bools.{and-left, and-right}
+use Rattle.catalogue_rules.specs.Reading.{catalogue, refused, with, reading, countField, fileOf, addressesOf, anyTwice, roomy, read}
+use Rattle.catalogue_rules.proofs.Bools.{and-left, and-right, passes}
 use Rattle.catalogue_rules.proofs.Came.{Came, came, roomy-only}
-use Rattle.catalogue_rules.specs.RoundTrip.{inTurn, Sizes, WellFormed, Bytes, WrittenIsRead, ReadIsWritten}
+use Rattle.catalogue_rules.specs.RoundTrip.{inTurn, Sizes, Bytes, WrittenIsRead, ReadIsWritten}
 use Rattle.catalogue_rules.proofs.WrittenBack.{fields-written, left-written, sizes-append}
 use Rattle.catalogue_rules.proofs.Back.{written-back, AllBytes, all-bytes, last-bytes}
 
@@ -26,9 +25,6 @@ use Rattle.catalogue_rules.proofs.Back.{written-back, AllBytes, all-byt
 ends-all : (m : Bool) (k n : ℕ) → m ≡ true → k ≡ n
     → cond (m && (true && (eqb k n && true))) (catalogue []) (refused FieldDamaged) ≡ catalogue []
 ends-all m k n e f = rw (e, eq-eqb k n f)
-
-passes : (a d : Bool) (x y r : Reading) → a ≡ false → d ≡ false → cond a x (cond d y r) ≡ r
-passes a d x y r e f = rw (e, f)
 
 pub read-in-turn : (turn : Turn) (n : ℕ) (fs : List Field) → inTurn turn fs ≡ true
     → reading turn n (fs ++ (countField (n + length fs) ∷ [])) [] ≡ catalogue fs
@@ -75,10 +71,6 @@ two-bytes (x ∷ y ∷ []) n l b e =
     ap₂ (λ (s t : ℕ). s ∷ t ∷ []) p q
 two-bytes (x ∷ y ∷ w ∷ v) n l b e = let z : _≡_ {A = ℕ} 0 1 = omega arith in absurd (omega arith)
 
-append-none : (l : List ℕ) → l ++ [] ≡ l
-append-none [] = refl
-append-none (x ∷ l) = ap (λ (t : List ℕ). x ∷ t) (append-none l)
-
 pub read-is-written : ReadIsWritten
 unfolding read fileOf
 read-is-written file fs b e =
@@ -88,6 +80,6 @@ read-is-written file fs b e =
     let t : c .value ≡ length fs % 256 ∷ length fs / 256 ∷ [] = two-bytes (c .value) (length fs) (c .two) v (c .count ∙ z) in
     ap (λ (w : List ℕ). bytesOf (fs ++ (field 4 w ∷ []))) (sym t)
     ∙ ap bytesOf (sym (c .are))
-    ∙ sym (append-none (bytesOf (fieldsOf file)))
+    ∙ sym (append-nil (bytesOf (fieldsOf file)))
     ∙ ap (λ (l : List ℕ). bytesOf (fieldsOf file) ++ l) (sym (c .none))
     ∙ written-back file b

@@ -8,26 +8,25 @@ use lib.Dec.{eqb}
 use Rattle.catalogue_rules.specs.Field.{Field, field, fieldsOf}
 use Rattle.catalogue_rules.specs.Turns.{addressOf}
 use Rattle.catalogue_rules.specs.Reading.{addressesOf, isAmong, anyTwice}
+use Rattle.catalogue_rules.specs.Edit.{isCard}
+use Rattle.catalogue_rules.proofs.Bools.{or-yes, or-no}
 
 among-if : (t : Bool) (a x : ℕ) (l : List ℕ) → isAmong a (cond t (x ∷ l) l) ≡ (t && eqb x a) || isAmong a l
 among-if true a x l = refl
 among-if false a x l = refl
+
+pub among-is : (f : Field) (fs : List Field) (a : ℕ) → isAmong a (addressesOf (f ∷ fs)) ≡ isCard a f || isAmong a (addressesOf fs)
+unfolding addressesOf
+among-is f fs a = among-if (eqb (f .tag) 1) a (addressOf (f .value)) (addressesOf fs)
 
 twice-if : (t : Bool) (x : ℕ) (l : List ℕ) → anyTwice (cond t (x ∷ l) l) ≡ (t && isAmong x l) || anyTwice l
 unfolding anyTwice
 twice-if true x l = refl
 twice-if false x l = refl
 
-or-yes : (a b : Bool) → a ≡ true → a || b ≡ true
-or-yes a b e = rw e
-
-or-no : (a b : Bool) → a ≡ false → a || b ≡ b
-or-no a b e = rw e
-
 module _ (here : List ℕ) (tag : ℕ) (v next : List ℕ) (isFirst : fieldsOf here ≡ field tag v ∷ fieldsOf next) where
   among-step : (a : ℕ) → isAmong a (addressesOf (fieldsOf here)) ≡ (eqb tag 1 && eqb (addressOf v) a) || isAmong a (addressesOf (fieldsOf next))
-  unfolding addressesOf
-  among-step a = ap (λ (fs : List Field). isAmong a (addressesOf fs)) isFirst ∙ among-if (eqb tag 1) a (addressOf v) (addressesOf (fieldsOf next))
+  among-step a = ap (λ (fs : List Field). isAmong a (addressesOf fs)) isFirst ∙ among-is (field tag v) (fieldsOf next) a
 
   twice-step : anyTwice (addressesOf (fieldsOf here)) ≡ (eqb tag 1 && isAmong (addressOf v) (addressesOf (fieldsOf next))) || anyTwice (addressesOf (fieldsOf next))
   unfolding addressesOf

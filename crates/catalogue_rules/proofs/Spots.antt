@@ -9,12 +9,12 @@ use borrow.Author.Tests.{ne-eqb, eq-eqb}
 use lib.ListN.{length, take, drop}
 use lib.Dec.{eqb}
 use Rattle.refusal.specs.declared.Refusal.the-variants.{NoSuchCard}
-use Rattle.catalogue_rules.specs.Field.{Field, field, numberAt, fieldsOf}
+use Rattle.catalogue_rules.specs.Field.{Field, numberAt, fieldsOf}
 use Rattle.catalogue_rules.proofs.At.{Stands}
-use Rattle.catalogue_rules.specs.Turns.{addressOf}
 use Rattle.catalogue_rules.specs.declared.Place.{Place}
 use Rattle.catalogue_rules.specs.declared.Place.the-variants.{At, Refused}
-use Rattle.catalogue_rules.specs.Lookup.{Spot, spot, spotsFrom, spotsAt, lastSpot, numberedSpot}
+use Rattle.catalogue_rules.specs.Lookup.{Spot, spot, spotsFrom, lastSpot, numberedSpot}
+use Rattle.catalogue_rules.proofs.Bools.{yes-if, no-if}
 use Rattle.catalogue_rules.proofs.Versions.{two-not-three}
 
 -- ---- the newest image: the number before it does not matter
@@ -56,12 +56,6 @@ abbrev pub turned : ℕ → List ℕ → List Field → ℕ → ℕ → ℕ → 
 turned tag v rest n next place size =
     cond (eqb tag 1) [] (cond (eqb tag 2) (spotsFrom next (numberAt v 0) rest) (cond (eqb tag 3) (spot n place size ∷ spotsFrom next n rest) (spotsFrom next n rest)))
 
-no-card : (a : Bool) (x : List Spot) → a ≡ false → cond a [] x ≡ x
-no-card a x e = rw e
-
-a-card : (a : Bool) (x : List Spot) → a ≡ true → cond a [] x ≡ []
-a-card a x e = rw e
-
 module _ (file : List ℕ) (at : ℕ) {tag start len : ℕ} (st : Stands file at tag start len) where
   pub next-place : at + (3 + length (take len (drop start file))) ≡ start + len
   next-place = omega (arith, st .behindHead, st .size)
@@ -80,27 +74,10 @@ module _ (file : List ℕ) (at : ℕ) {tag start len : ℕ} (st : Stands file at
       ≡ cond (eqb tag 2) (spotsFrom (start + len) (numberAt (take len (drop start file)) 0) (fieldsOf (drop (start + len) file)))
       (cond (eqb tag 3) (spot n start len ∷ spotsFrom (start + len) n (fieldsOf (drop (start + len) file)))
       (spotsFrom (start + len) n (fieldsOf (drop (start + len) file))))
-  from-here n other = is-turned n ∙ no-card (eqb tag 1) _ (ne-eqb tag 1 other)
+  from-here n other = is-turned n ∙ no-if (eqb tag 1) [] _ (ne-eqb tag 1 other)
 
   none-here : (n : ℕ) → tag ≡ 1 → spotsFrom at n (fieldsOf (drop at file)) ≡ []
-  none-here n one = is-turned n ∙ a-card (eqb tag 1) _ (eq-eqb tag 1 one)
-
-  -- ---- the card
-  module _ (a : ℕ) (t : Bool) (hit : t ≡ (eqb tag 1 && eqb (addressOf (take len (drop start file))) a)) (whole : List Spot) (inv : spotsAt a at (fieldsOf (drop at file)) ≡ whole) where
-    at-step : cond t (spotsFrom (start + len) 0 (fieldsOf (drop (start + len) file))) (spotsAt a (start + len) (fieldsOf (drop (start + len) file))) ≡ whole
-    unfolding spotsAt
-    at-step =
-        let rest : List Field = fieldsOf (drop (start + len) file) in
-        ap (λ (b : Bool). cond b (spotsFrom (start + len) 0 rest) (spotsAt a (start + len) rest)) hit
-        ∙ ap (λ (next : ℕ). cond (eqb tag 1 && eqb (addressOf (take len (drop start file))) a) (spotsFrom next 0 rest) (spotsAt a next rest)) (sym next-place)
-        ∙ ap (spotsAt a at) (sym (st .isFirst))
-        ∙ inv
-
-    pub card-here : t ≡ true → spotsFrom (start + len) 0 (fieldsOf (drop (start + len) file)) ≡ whole
-    card-here e = ap (λ (b : Bool). cond b (spotsFrom (start + len) 0 (fieldsOf (drop (start + len) file))) (spotsAt a (start + len) (fieldsOf (drop (start + len) file)))) (sym e) ∙ at-step
-
-    pub card-later : t ≡ false → spotsAt a (start + len) (fieldsOf (drop (start + len) file)) ≡ whole
-    card-later e = ap (λ (b : Bool). cond b (spotsFrom (start + len) 0 (fieldsOf (drop (start + len) file))) (spotsAt a (start + len) (fieldsOf (drop (start + len) file)))) (sym e) ∙ at-step
+  none-here n one = is-turned n ∙ yes-if (eqb tag 1) [] _ (eq-eqb tag 1 one)
 
   -- ---- the newest image
   module _ (best : Place) (whole : Place) (inv : (n : ℕ) → lastSpot best (spotsFrom at n (fieldsOf (drop at file))) ≡ whole) where
@@ -149,10 +126,6 @@ module _ (file : List ℕ) (at : ℕ) {tag start len : ℕ} (st : Stands file at
           ∙ numbered-step
 
 -- ---- the end of the fields
-
-pub card-nowhere : (a at : ℕ) (here : List ℕ) (whole : List Spot) → fieldsOf here ≡ [] → spotsAt a at (fieldsOf here) ≡ whole → [] ≡ whole
-unfolding spotsAt
-card-nowhere a at here whole e inv = ap (spotsAt a at) (sym e) ∙ inv
 
 pub newest-none : (at : ℕ) (here : List ℕ) (best whole : Place) → fieldsOf here ≡ [] → ((n : ℕ) → lastSpot best (spotsFrom at n (fieldsOf here)) ≡ whole) → best ≡ whole
 unfolding spotsFrom lastSpot

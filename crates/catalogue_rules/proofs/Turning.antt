@@ -1,14 +1,20 @@
 -- The ways through the definition of the next turn.
 -- Assumes nothing.
 use Prim.Native.Nat.{ℕ}
-use mathlib.Core.Path.{_≡_}
+use mathlib.Core.Path.{_≡_, refl}
+use mathlib.Core.Bool.{Bool, true, false, cond, true≢false}
 use mathlib.Core.List.{List}
 use borrow.Author.Tests.{eq-eqb, ne-eqb}
 use lib.ListN.{length}
-use Rattle.catalogue_rules.specs.Field.{Field, field, numberAt}
+use Rattle.catalogue_rules.specs.Field.{field, numberAt}
 use Rattle.catalogue_rules.specs.declared.Turn.{Turn}
 use Rattle.catalogue_rules.specs.declared.Turn.the-variants.{Damaged}
-use Rattle.catalogue_rules.specs.Turns.{afterAddress, afterNumber, afterImage, after}
+use Rattle.catalogue_rules.specs.Turns.{afterAddress, afterNumber, afterImage, after, isDamaged}
+
+-- A test that is not damage held.
+pub held : (b : Bool) (turn : Turn) → isDamaged (cond b turn Damaged) ≡ false → b ≡ true
+held true turn e = refl
+held false turn e = absurd (true≢false e)
 
 module _ (turn : Turn) (tag : ℕ) (v : List ℕ) where
   module _ (one : tag ≡ 1) where

@@ -1,6 +1,6 @@
 -- The walk's turns over plain lists: the fields from a place on, behind those passed, always read as the whole.
 -- Assumes nothing.
-use Prim.Native.Nat.{ℕ, suc, _+_, _≤_, _<_}
+use Prim.Native.Nat.{ℕ, suc, _+_}
 use mathlib.Core.Path.{_≡_, refl, sym, ap, ap₂, subst, _∙_}
 use mathlib.Core.Bool.{Bool, true, false, cond}
 use mathlib.Core.List.{List, [], _∷_}
@@ -14,14 +14,15 @@ use Rattle.catalogue_rules.specs.declared.Turn.{Turn}
 use Rattle.catalogue_rules.specs.declared.Judged.{Judged}
 use Rattle.catalogue_rules.specs.declared.Judged.the-variants.{Sound, Refused}
 use Rattle.catalogue_rules.specs.Turns.{after, isDamaged}
-use Rattle.catalogue_rules.specs.Reading.{Reading, catalogue, refused, with, isLast, ends, reading, addressesOf, judged}
+use Rattle.catalogue_rules.specs.Reading.{Reading, catalogue, refused, with, reading, addressesOf, judged}
+use Rattle.catalogue_rules.proofs.Bools.{passes}
 use Rattle.catalogue_rules.specs.FileWalk.{behindSo, closes, oneIf}
 
 pub at-start : (j : Judged) → behindSo 0 0 j ≡ j
 at-start (Sound c m) = let p : 0 + c ≡ c = omega arith in let q : 0 + m ≡ m = omega arith in ap₂ (λ (x y : ℕ). Sound x y) p q
 at-start (Refused why) = refl
 
-one-more : (t : Bool) (a : ℕ) (l : List ℕ) → length (cond t (a ∷ l) l) ≡ oneIf t + length l
+pub one-more : (t : Bool) (a : ℕ) (l : List ℕ) → length (cond t (a ∷ l) l) ≡ oneIf t + length l
 one-more true a l = omega arith
 one-more false a l = omega arith
 
@@ -33,9 +34,6 @@ with-law cards n f (catalogue gs) =
     let q : n + 1 + length gs ≡ n + suc (length gs) = omega arith in
     ap₂ (λ (x y : ℕ). Sound x y) p q
 with-law cards n f (refused why) = refl
-
-passes : (a d : Bool) (x y r : Reading) → a ≡ false → d ≡ false → cond a x (cond d y r) ≡ r
-passes a d x y r e f = rw (e, f)
 
 stays : (a d : Bool) (x y r : Reading) → a ≡ false → d ≡ true → cond a x (cond d y r) ≡ y
 stays a d x y r e f = rw (e, f)

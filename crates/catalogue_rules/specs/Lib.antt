@@ -1,17 +1,24 @@
 -- The catalogue: tagged fields, a file's meaning and its check, the round trips, looking cards up, archives, the changes, and what a change writes.
-pub mod Archive
-pub mod Cards
-pub mod Edit
+-- tagged fields
 pub mod Field
-pub mod FileContracts
+-- a file: its meaning and its check
+pub mod Turns
+pub mod Reading
+pub mod Cards
 pub mod FileWalk
+pub mod FileContracts
+-- what is proved of a file
+pub mod RoundTrip
+-- looking cards up
 pub mod Lookup
-pub mod LookupContracts
-pub mod LookupWalk
 pub mod Places
+pub mod LookupWalk
+pub mod LookupContracts
+-- today's archive, moved in and written out
+pub mod Archive
+-- the changes
+pub mod Edit
+pub mod Unknown
+-- what a change writes
 pub mod Put
 pub mod PutContracts
-pub mod Reading
-pub mod RoundTrip
-pub mod Turns
-pub mod Unknown

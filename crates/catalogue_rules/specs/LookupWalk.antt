@@ -2,21 +2,13 @@
 -- Assumes nothing.
 use Prim.Native.Nat.{ℕ}
 use mathlib.Core.Bool.{_&&_, _||_}
-use mathlib.Core.List.{List, []}
-use lib.ListN.{drop}
+use mathlib.Core.List.{List}
 use lib.Dec.{leb}
 use Rattle.catalogue_rules.specs.Field.{fieldsOf}
 use Rattle.catalogue_rules.specs.Reading.{addressesOf, anyTwice}
 use Rattle.catalogue_rules.specs.declared.Place.{Place}
 use Rattle.catalogue_rules.specs.declared.Hit.{Hit}
-use Rattle.catalogue_rules.specs.declared.Seek.{Seek}
-use Rattle.catalogue_rules.specs.declared.Seek.the-variants.{Behind, Missing}
-use Rattle.catalogue_rules.specs.Lookup.{Spot, spotsFrom, whereSound, inMain}
-
--- The versions behind a card that was found.
-abbrev pub spotsBehind : List ℕ → Seek → List Spot
-spotsBehind file (Behind at) = spotsFrom at 0 (fieldsOf (drop at file))
-spotsBehind file Missing = []
+use Rattle.catalogue_rules.specs.Lookup.{whereSound, inMain}
 
 -- The file's own tests, of a file with so many cards; those of two files at once.
 abbrev pub foundIn : ℕ → List ℕ → Place → Place

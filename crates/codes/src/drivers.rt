@@ -1,5 +1,6 @@
 // The driver's answers in numbers.
 ghost use mathlib.Core.Path.{_≡_};
+ghost use Rattle.refusal.specs.Number.{numberOf};
 ghost use Rattle.codes.specs.Codes.{openCode, codedOpened, sendCode, sendTicket, codedSent, serviceTold, codedServed};
 use card_rules::Card;
 use driver_rules::Answer;
@@ -9,6 +10,7 @@ use driver_rules::Opened;
 use driver_rules::SendAnswer;
 use driver_rules::Sent;
 use driver_rules::Serviced;
+use refusal::Refusal;
 
 // Card and driver after an open, and the code.
 #[repr(C)]
@@ -103,6 +105,20 @@ pub fn coded_sent(x: Sent) -> DriverSent
     }
 }
 
+// A refusal's own number, and nothing else.
+fn service_refused(why: Refusal) -> Service
+    ensures { λ r. ⌜ r ≡ record { kind = 0; code = numberOf why; ticket = 0; status = 0; n = 0 } ⌝ }
+{
+    let code = refusal::number(why);
+    Service {
+        kind: 0,
+        code: code,
+        ticket: 0,
+        status: 0,
+        n: 0,
+    }
+}
+
 fn service_told(a: Answer) -> Service
     ensures { λ r. ⌜ r ≡ serviceTold a ⌝ }
 {
@@ -135,16 +151,7 @@ fn service_told(a: Answer) -> Service
             status: 0,
             n: 0,
         },
-        Answer::Refused(why) => {
-            let code = refusal::number(why);
-            Service {
-                kind: 0,
-                code: code,
-                ticket: 0,
-                status: 0,
-                n: 0,
-            }
-        }
+        Answer::Refused(why) => service_refused(why),
     }
 }
 

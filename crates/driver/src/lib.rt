@@ -2,6 +2,7 @@
 ghost use mathlib.Core.Path.{_≡_};
 ghost use lib.ListN.{length};
 ghost use denote.Ref.{ptr};
+ghost use Rattle.driver_rules.specs.declared.Answer.the-variants.{Refused};
 ghost use Rattle.driver_rules.specs.Calls.{soundState, Opens, Sends, Services};
 ghost use Rattle.driver_rules.specs.HandUp.{area, handed};
 use card_rules::Card;
@@ -9,7 +10,6 @@ use driver_rules::Answer;
 use driver_rules::Driver;
 use driver_rules::OpenAnswer;
 use driver_rules::Opened;
-use driver_rules::SendAnswer;
 use driver_rules::Sent;
 use driver_rules::Serviced;
 use refusal::Refusal;
@@ -54,13 +54,21 @@ pub fn send(ram: &mut [u8; 8192], dir: &mut [u16; 1110], c: Card, d: Driver, pac
     ensures { λ r. ⌜ Sends c (now (ram .entry)) (now (dir .entry)) d (now (packet .entry)) r (now (ram .exit)) (now (dir .exit)) ⌝ }
 {
     if !is_sound(ram, dir, c, d) {
-        return Sent {
-            card: c,
-            driver: d,
-            answer: SendAnswer::Refused(Refusal::StateUnsound),
-        };
+        return sending::refused(c, d, Refusal::StateUnsound);
     }
     sending::send(ram, dir, c, d, packet)
+}
+
+// A service refused before its first access.
+fn refused(c: Card, d: Driver, why: Refusal) -> Serviced
+    ensures { λ r. ⌜ r ≡ record { card = c; driver = d; answer = Refused why; used = 0 } ⌝ }
+{
+    Serviced {
+        card: c,
+        driver: d,
+        answer: Answer::Refused(why),
+        used: 0,
+    }
 }
 
 // Service, with at most `budget` accesses. A frame lands in the lookahead area or in the frame area.
@@ -76,36 +84,16 @@ pub fn service(
     ensures { λ r. ⌜ Services c (now (ram .entry)) (now (dir .entry)) d budget (now (ahead .entry)) (now (frame .entry)) r (now (ram .exit)) (now (dir .exit)) (now (ahead .exit)) (now (frame .exit)) ⌝ }
 {
     if !is_sound(ram, dir, c, d) {
-        return Serviced {
-            card: c,
-            driver: d,
-            answer: Answer::Refused(Refusal::StateUnsound),
-            used: 0,
-        };
+        return refused(c, d, Refusal::StateUnsound);
     }
     if !d.opened {
-        return Serviced {
-            card: c,
-            driver: d,
-            answer: Answer::Refused(Refusal::NeverOpened),
-            used: 0,
-        };
+        return refused(c, d, Refusal::NeverOpened);
     }
-    if ahead.len() < 256 {
-        return Serviced {
-            card: c,
-            driver: d,
-            answer: Answer::Refused(Refusal::AreaShort),
-            used: 0,
-        };
+    if ahead.len() < items::sizes::LOOKAHEAD_AREA {
+        return refused(c, d, Refusal::AreaShort);
     }
-    if frame.len() < 1514 {
-        return Serviced {
-            card: c,
-            driver: d,
-            answer: Answer::Refused(Refusal::AreaShort),
-            used: 0,
-        };
+    if frame.len() < items::sizes::FRAME_AREA {
+        return refused(c, d, Refusal::AreaShort);
     }
     service::serve(ram, dir, c, d, ahead, frame, budget as usize)
 }
@@ -114,7 +102,7 @@ pub fn service(
 pub fn hand_up<'a>(ahead: &'a [u8], frame: &'a [u8], n: usize) -> &'a [u8]
     ensures { λ r. ⌜ (now r ≡ handed (now (ahead .entry)) (now (frame .entry)) n) × (ptr r ≡ area n (ptr (ahead .entry)) (ptr (frame .entry))) ⌝ }
 {
-    if n <= 256 {
+    if n <= items::sizes::LOOKAHEAD_AREA {
         if n <= ahead.len() {
             return &ahead[..n];
         }

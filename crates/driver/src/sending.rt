@@ -1,7 +1,10 @@
 // Sending: the refusals in their order, the two preamble words and the data.
+ghost use mathlib.Core.Path.{_≡_};
 ghost use Prim.Native.Nat.{_≤_};
 ghost use lib.ListN.{length};
 ghost use Rattle.card_rules.specs.View.{view, Sound, Stands};
+ghost use Rattle.driver_rules.specs.declared.SendAnswer.the-variants.{Refused, Ticket};
+ghost use Rattle.driver_rules.specs.Driver.{sending};
 ghost use Rattle.driver_rules.specs.Packet.{packetWords};
 ghost use Rattle.driver_rules.specs.Talk.{run, wordsOf, afterWrites};
 ghost use Rattle.driver_rules.specs.Send.{sendTalk};
@@ -43,6 +46,36 @@ fn write_packet(ram: &mut [u8], dir: &mut [u16], c: Card, packet: &[u8]) -> Card
     write_data(ram, dir, second, packet, items::round_up(n) / 2)
 }
 
+// A refusal: card and driver as they came.
+pub fn refused(c: Card, d: Driver, why: Refusal) -> Sent
+    ensures { λ r. ⌜ r ≡ record { card = c; driver = d; answer = Refused why } ⌝ }
+{
+    Sent {
+        card: c,
+        driver: d,
+        answer: SendAnswer::Refused(why),
+    }
+}
+
+// The ticket is the count of earlier packets modulo 65,536, and one more is unreported.
+fn ticketed(c: Card, d: Driver) -> Sent
+    requires { ⌜ d .unreported ≤ 15 ⌝ }
+    ensures { λ r. ⌜ r ≡ record { card = c; driver = sending d; answer = Ticket (d .sent) } ⌝ }
+{
+    let ticket = d.sent;
+    let next = Driver {
+        opened: d.opened,
+        sent: std::num::wrapping_add_u16(ticket, 1),
+        unreported: d.unreported + 1,
+        error: d.error,
+    };
+    Sent {
+        card: c,
+        driver: next,
+        answer: SendAnswer::Ticket(ticket),
+    }
+}
+
 // A packet is written only after every refusal was passed.
 pub fn send(ram: &mut [u8], dir: &mut [u16], c: Card, d: Driver, packet: &[u8]) -> Sent
     requires { ⌜ Sound c (now ram) (now dir) ⌝ }
@@ -50,54 +83,23 @@ pub fn send(ram: &mut [u8], dir: &mut [u16], c: Card, d: Driver, packet: &[u8]) 
 {
     let n = packet.len();
     if !d.opened {
-        return Sent {
-            card: c,
-            driver: d,
-            answer: SendAnswer::Refused(Refusal::NeverOpened),
-        };
+        return refused(c, d, Refusal::NeverOpened);
     }
     if items::is_outside(n) {
-        return Sent {
-            card: c,
-            driver: d,
-            answer: SendAnswer::Refused(Refusal::LengthOutside),
-        };
+        return refused(c, d, Refusal::LengthOutside);
     }
     let waiting = d.unreported;
-    if 15 < waiting {
-        return Sent {
-            card: c,
-            driver: d,
-            answer: SendAnswer::Refused(Refusal::SixteenUnreported),
-        };
+    if items::sizes::MOST_UNREPORTED <= waiting {
+        return refused(c, d, Refusal::SixteenUnreported);
     }
     let status = steps::read_word(ram, dir, c, driver_rules::STATUS);
     if items::is_unfit(status.value) {
-        return Sent {
-            card: c,
-            driver: d,
-            answer: SendAnswer::Refused(Refusal::CardUnfit),
-        };
+        return refused(c, d, Refusal::CardUnfit);
     }
     let free = steps::read_word(ram, dir, status.card, driver_rules::TX_FREE);
     if items::lacks_room(free.value, n) {
-        return Sent {
-            card: c,
-            driver: d,
-            answer: SendAnswer::Refused(Refusal::NoRoom),
-        };
+        return refused(c, d, Refusal::NoRoom);
     }
     let end = write_packet(ram, dir, free.card, packet);
-    let ticket = d.sent;
-    let next = Driver {
-        opened: d.opened,
-        sent: std::num::wrapping_add_u16(ticket, 1),
-        unreported: waiting + 1,
-        error: d.error,
-    };
-    Sent {
-        card: end,
-        driver: next,
-        answer: SendAnswer::Ticket(ticket),
-    }
+    ticketed(end, d)
 }

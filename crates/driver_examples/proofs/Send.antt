@@ -1,6 +1,5 @@
 -- Send on an opened card, by computing. Assumes nothing.
 use mathlib.Core.Path.{refl}
-use Rattle.receive_rules.specs.Frame.{room}
 use Rattle.receive_rules.specs.Reading.{complete}
 use Rattle.receive_rules.specs.Early.{earlyFlag, toldFlag}
 use Rattle.transmit_rules.specs.Queue as queue

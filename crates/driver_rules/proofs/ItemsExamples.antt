@@ -1,14 +1,15 @@
 -- Worked figures, computed. Assumes nothing.
 use mathlib.Core.Path.{_≡_, refl}
 use mathlib.Core.Bool.{Bool, true, false}
-use mathlib.Core.List.{List, [], _∷_, _++_}
+use mathlib.Core.List.{[], _∷_, _++_}
 use Prim.Native.Nat.{ℕ}
-use lib.ListN.{getD, drop, replicate}
-use Rattle.card_rules.specs.Access.{Access, ReadByte, WriteWord, WriteByte}
+use lib.ListN.{replicate}
+use Rattle.card_rules.specs.Access.{ReadByte, WriteWord, WriteByte}
 use Rattle.driver_rules.specs.declared.Driver.{Driver}
-use Rattle.driver_rules.specs.Talk.{Talk, done, ask, readWords}
+use Rattle.driver_rules.proofs.TalkExamples.{made, answer}
+use Rattle.driver_rules.specs.Talk.{readWords}
 use Rattle.driver_rules.specs.declared.Answer.the-variants.{Reported}
-use Rattle.driver_rules.specs.Items.{Serving, plain, short, reports, reportTalk, fetchTalk}
+use Rattle.driver_rules.specs.Items.{plain, short, isError, reports, reportTalk, fetchTalk}
 use Rattle.driver_rules.specs.Areas.{isShort, inLook}
 
 -- ---- the border between the two areas: 256 bytes land in the lookahead area, 257 in the frame area
@@ -18,16 +19,6 @@ looked-at = refl
 
 framed : isShort 257 ≡ false
 framed = refl
-
--- ---- a tree whose accesses give the values vs in turn
-
-made : {A : Type 0} → Talk A → List ℕ → List Access
-made (done x) vs = []
-made (ask x next) vs = x ∷ made (next (getD vs 0 0)) (drop 1 vs)
-
-answer : {A : Type 0} → Talk A → List ℕ → A
-answer (done x) vs = x
-answer (ask x next) vs = answer (next (getD vs 0 0)) (drop 1 vs)
 
 -- ---- a report
 
@@ -39,6 +30,16 @@ driver unreported error = record { opened = true; sent = 7; unreported = unrepor
 reported-once : reports 0xC0 (driver 3 false) ≡ plain (Reported 4 0xC0) (driver 2 false)
 unfolding reports driver
 reported-once = refl
+
+-- Any of bits 5-2 is an error, as the 04h of the push that fills the stack; bits 7, 6, 1 and 0 are none.
+bit-2 : isError 0xC4 ≡ true
+bit-2 = refl
+
+bit-5 : isError 0x20 ≡ true
+bit-5 = refl
+
+no-error : isError 0xC3 ≡ false
+no-error = refl
 
 -- After 16 collisions TX Status shows C8h. With a status left there is no TX Enable, and the error is kept.
 status-left : made (reportTalk 4 (driver 3 false)) (0xC8 ∷ (0 ∷ (0xC0 ∷ []))) ≡ ReadByte 11 ∷ (WriteByte 11 0 ∷ (ReadByte 11 ∷ []))

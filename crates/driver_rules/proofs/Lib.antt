@@ -1,22 +1,30 @@
--- The driver: calls as trees of accesses, its state, open, send, the items of a service, a whole service, hand_up.
-pub mod DriverExamples
-pub mod Going
-pub mod HandUp
-pub mod ItemWays
-pub mod ItemsExamples
-pub mod Keeps
-pub mod OpenWays
-pub mod OpeningExamples
-pub mod Reading
+-- Laws and worked examples.
+-- registers and commands, trees of accesses and their runs, the driver's state
 pub mod Runs
-pub mod SendWays
-pub mod SendingExamples
-pub mod ServiceExamples
-pub mod ServiceWays
-pub mod ServingExamples
-pub mod ServingUnmoved
+pub mod Reading
 pub mod Status
 pub mod TalkExamples
-pub mod Unfit
+-- the items of a service
+pub mod ItemWays
+pub mod ItemsExamples
+-- a service
+pub mod ServiceWays
 pub mod Unmoved
+pub mod ServiceExamples
+-- when refusal 5 comes
+pub mod Unfit
+-- a whole service
+pub mod Going
+pub mod ServingUnmoved
+pub mod ServingExamples
+-- open
+pub mod OpenWays
+pub mod OpeningExamples
+-- send
+pub mod SendWays
+pub mod SendingExamples
+-- the public calls
 pub mod Ways
+pub mod Keeps
+pub mod HandUp
+pub mod DriverExamples

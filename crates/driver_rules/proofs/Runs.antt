@@ -1,6 +1,7 @@
 -- Laws of runs: a step function's contract is an equation of `access`, and a loop of accesses is one extension of the run.
 -- `access` stays shut: the laws hold for any card. Assumes nothing.
 use mathlib.Core.Path.{_≡_, refl, ap, sym, _∙_}
+use mathlib.Core.Bool.{false}
 use mathlib.Core.List.{List, [], _∷_, _++_, map}
 use Prim.Native.Nat.{ℕ, zero, suc, _+_, _-_, _*_, _/_, _%_, _<_, _≤_}
 use native.Mathlib.Nat.{add-zero}
@@ -10,9 +11,10 @@ use lib.Seq.{getD-drop, drop-drop}
 use Rattle.card_rules.specs.declared.Card.{Card}
 use Rattle.card_rules.specs.Adapter.{Adapter}
 use Rattle.card_rules.specs.View.{view, Sound, Stands}
-use Rattle.card_rules.specs.Access.{Access, ReadWord, WriteWord, Step, step, access}
+use Rattle.card_rules.specs.Access.{Access, ReadWord, WriteWord, Step, step, ones, access}
 use Rattle.card_rules.specs.Gives.{Gives}
-use Rattle.driver_rules.specs.Talk.{Talk, extended, run, readWords, writeWords, wordsOf, after, afterReads, afterWrites, bytesRead}
+use Rattle.card_rules.proofs.StepEnds.{asleep}
+use Rattle.driver_rules.specs.Talk.{Talk, done, ask, extended, run, readWords, writeWords, wordsOf, after, afterReads, afterWrites, bytesRead}
 
 -- what a step function gives, as an equation
 pub gave : {r : Card} {v : ℕ} {ram dir : List ℕ} {s : Step} → Gives r v ram dir s → s ≡ step v (view r ram dir)
@@ -20,6 +22,13 @@ gave g = λ i. record { value = sym (g .value) i; adapter = sym (g .stands .show
 
 pub wrote : {r : Card} {ram dir : List ℕ} (s : Step) → Stands r ram dir (s .adapter) → s ≡ step (s .value) (view r ram dir)
 wrote s w = λ i. record { value = s .value; adapter = sym (w .shows) i }
+
+-- an inactive card stays as it is
+pub asleep-run : {A : Type 0} (t : Talk A) (a : Adapter) → a .id .active ≡ false → (run t a) .adapter ≡ a
+unfolding run
+asleep-run (done x) a n = refl
+asleep-run (ask x k) a n =
+    ap (λ (t : Step). (run (k (t .value)) (t .adapter)) .adapter) (asleep x a n) ∙ asleep-run (k (ones x)) a n
 
 -- ---- loops of accesses
 

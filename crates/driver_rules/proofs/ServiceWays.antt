@@ -94,17 +94,6 @@ module _ (d : Driver) (s s₁ : Adapter) (v : ℕ) where
   drops zero h e = absurd (h refl)
   drops (suc k) h e = rw (sub-one, e)
 
--- A card that shows 0 in Status is told unfit.
-told-unfit : (d : Driver) (s s₁ : Adapter) → access (ReadWord 14) s ≡ step 0 s₁ → (run (lookTalk 1 d) s) .answer .answer ≡ Refused CardUnfit
-unfolding run lookTalk
-told-unfit d s s₁ e = rw e
-
--- When a frame was dropped the pass looks again, and pretends nothing: the card is told unfit then too.
-looks-again : (d : Driver) (s s₁ s₂ : Adapter) (v : ℕ) → access (WriteWord 14 16384) s ≡ step v s₁ → access (ReadWord 14) s₁ ≡ step 0 s₂
-    → (run (dropTalk 2 d) s) .answer .answer ≡ Refused CardUnfit
-unfolding run lookTalk
-looks-again d s s₁ s₂ v e₁ e₂ = rw e₁ (told-unfit d s₁ s₂ e₂)
-
 -- ---- look
 
 module _ (left : ℕ) (d : Driver) (s : Adapter) (l f : List ℕ) where

@@ -9,7 +9,7 @@ use Rattle.card_rules.specs.Access.{Access, access}
 use Rattle.driver_rules.specs.declared.Driver.{Driver}
 use Rattle.driver_rules.specs.Registers.{unfit, rxComplete, bad}
 use Rattle.driver_rules.specs.Talk.{Talk, done, ask, run, wordsOf}
-use Rattle.driver_rules.specs.Driver.{driverSound, opening, oldestTicket}
+use Rattle.driver_rules.specs.Driver.{driverSound, opening, sending, oldestTicket}
 use Rattle.driver_rules.specs.Packet.{outside, lacksRoom, packetWords}
 
 abbrev after : ℕ → ℕ → Driver
@@ -22,6 +22,10 @@ of-seven-three = refl
 -- Tickets go round: before ticket 0 comes 65,535.
 round : oldestTicket (after 1 3) ≡ 65534
 round = refl
+
+-- Ticket 65,535 is given, and the next is 0.
+last-ticket : sending (after 65535 3) ≡ after 0 4
+last-ticket = refl
 
 -- A second open keeps the three.
 kept-three : opening (after 7 3) ≡ after 7 3
@@ -113,3 +117,8 @@ one-step x a = refl
 unfoldable pub made : {A : Type 0} → Talk A → List ℕ → List Access
 made (done x) vs = []
 made (ask x next) vs = x ∷ made (next (getD vs 0 0)) (drop 1 vs)
+
+-- What it answers then.
+unfoldable pub answer : {A : Type 0} → Talk A → List ℕ → A
+answer (done x) vs = x
+answer (ask x next) vs = answer (next (getD vs 0 0)) (drop 1 vs)

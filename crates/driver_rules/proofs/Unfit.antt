@@ -2,22 +2,20 @@
 use mathlib.Core.Path.{_≡_, refl, sym, ap, subst⁻¹, _∙_}
 use mathlib.Core.Bool.{Bool, true, false, cond, not, _&&_, _||_}
 use mathlib.Core.List.{List, [], _∷_}
-use Prim.Native.Nat.{ℕ, zero, suc, _+_, _*_, _/_, _%_, _≤_}
+use Prim.Native.Nat.{ℕ, zero, suc, _+_, _/_, _%_}
 use native.Mathlib.Omega.{arith}
-use borrow.Author.Tests.{eqb-true, eq-eqb, ne-eqb}
+use borrow.Author.Tests.{eqb-true, not-false}
 use lib.Dec.{eqb, ltb}
 use lib.ListN.{take}
 use Rattle.refusal.specs.declared.Refusal.the-variants.{CardUnfit, BudgetShort}
 use Rattle.refusal.specs.Number.{numberOf}
-use Rattle.bits.specs.Bits.{has, weigh}
+use Rattle.bits.specs.Bits.{has}
 use Rattle.bits.proofs.Tests.{of-cond, by-test, never, neither}
 use Rattle.receive_rules.specs.Frame.{Rx, Frame}
 use Rattle.receive_rules.specs.Reading as reading
-use Rattle.card_rules.specs.declared.Select.{Select}
-use Rattle.card_rules.specs.declared.Flags.{Flags}
 use Rattle.card_rules.specs.Adapter.{Adapter}
 use Rattle.card_rules.specs.Update.{withRx}
-use Rattle.card_rules.specs.Status.{failure, flags, statusOf}
+use Rattle.card_rules.specs.Status.{failure, flags}
 use Rattle.card_rules.specs.Settle.{settle}
 use Rattle.card_rules.specs.Command.{command, commanded}
 use Rattle.card_rules.specs.Read.{wordAt, afterWord}
@@ -176,10 +174,6 @@ mutual
 
 -- ---- a card that shows a fit Status is fit
 
-pub not-false-true : (a : Bool) → not a ≡ false → a ≡ true
-not-false-true true e = refl
-not-false-true false e = sym e
-
 fit-shown : (a : Adapter) → unfit ((access (ReadWord 14) a) .value) ≡ false → Fit a
 unfolding effect wordAt
 fit-shown a e =
@@ -187,7 +181,7 @@ fit-shown a e =
     (λ y.
     let h = neither (not (eqb (a .select .window) 1)) (has 2 (a .select .zero) && failure a)
     (sym (unfit-status (a .select) (flags a)) ∙ sym (ap (λ (t : Step). unfit (t .value)) (awake (ReadWord 14) a y)) ∙ e) in
-    record { active = y; window = eqb-true (a .select .window) 1 (not-false-true (eqb (a .select .window) 1) (h .0)); hidden = h .1 })
+    record { active = y; window = eqb-true (a .select .window) 1 (not-false (eqb (a .select .window) 1) (h .0)); hidden = h .1 })
     (λ n. never (sym (sym (ap (λ (t : Step). unfit (t .value)) (asleep (ReadWord 14) a n)) ∙ e)))
 
 pub unfit-at-once : Unfit-comes-at-once

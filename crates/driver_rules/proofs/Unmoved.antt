@@ -1,6 +1,6 @@
 -- Refusal 5 at the first access changes nothing: Status is read from a sound card, which stays as it was, and every other way answers otherwise or makes more accesses.
 -- Assumes nothing.
-use mathlib.Core.Path.{_≡_, refl, ap, sym, _∙_}
+use mathlib.Core.Path.{_≡_, refl, sym, _∙_}
 use mathlib.Core.Bool.{true, false}
 use mathlib.Core.List.{List}
 use Prim.Native.Nat.{ℕ, zero, suc, _-_, _≤_}

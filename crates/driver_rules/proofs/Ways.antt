@@ -33,7 +33,7 @@ use Rattle.driver_rules.proofs.Unfit.{unfit-at-once}
 use Rattle.driver_rules.specs.Calls.{soundState, large, openCall, sendCall, serviceCall, Opens, Sends, ServiceCall, Services}
 
 -- a refusal that is passed
-passed : {A : Type 0} (b : Bool) (x y : A) → b ≡ true → cond (not b) x y ≡ y
+pub passed : {A : Type 0} (b : Bool) (x y : A) → b ≡ true → cond (not b) x y ≡ y
 passed b x y e = ap (λ (v : Bool). cond (not v) x y) e
 
 module _ (c : Card) (ram dir : List ℕ) (d : Driver) where

@@ -1,19 +1,27 @@
 -- The driver: calls as trees of accesses, its state, open, send, the items of a service, a whole service, hand_up.
-pub mod Areas
-pub mod Calls
+-- registers and commands, trees of accesses and their runs, the driver's state
+pub mod Registers
+pub mod Talk
 pub mod Driver
-pub mod HandUp
+pub mod Packet
+-- the items of a service
 pub mod Items
+pub mod Areas
 pub mod Meets
+-- a service
+pub mod Service
+pub mod Serves
+-- when refusal 5 comes
+pub mod Unfit
+-- a whole service
+pub mod Serving
+-- open
 pub mod Open
 pub mod Opens
-pub mod Packet
-pub mod Paper
-pub mod Registers
+-- send
 pub mod Send
 pub mod Sends
-pub mod Serves
-pub mod Service
-pub mod Serving
-pub mod Talk
-pub mod Unfit
+-- the public calls
+pub mod Calls
+pub mod Paper
+pub mod HandUp

@@ -1,6 +1,6 @@
 -- A contract of the driver fixes answer, driver, count and areas by the run of the call's tree; the end is the run's, or what came in where the call is refused. Assumes nothing.
 use mathlib.Core.Path.{_≡_, refl, sym, ap, subst⁻¹, _∙_}
-use mathlib.Core.Bool.{Bool, true, false, cond, not, _&&_}
+use mathlib.Core.Bool.{Bool, true, false, _&&_}
 use mathlib.Core.List.{List}
 use Prim.Native.Nat.{ℕ}
 use Rattle.refusal.specs.declared.Refusal.the-variants.{CardUnfit}
@@ -25,6 +25,7 @@ use Rattle.driver_rules.specs.Send as sends
 use Rattle.driver_rules.specs.declared.Sent.{Sent}
 use Rattle.driver_rules.specs.Paper.{openPaper, sendPaper, servicePaper}
 use Rattle.driver_rules.specs.Calls.{soundState, large, serviceCall, Opens, Sends, Services}
+use Rattle.driver_rules.proofs.Ways.{passed}
 use Rattle.fits.specs.Agree.{With, WithAreas, End, shown, SameEnd, isRefused, SameLeft}
 use Rattle.fits.specs.Fits.{opened, sent, served, DriverCalls}
 use Rattle.fits.proofs.Service.{Ways, of-look}
@@ -68,9 +69,6 @@ five-only =
       idle = λ d used y. never y;
       frame = λ n d bytes e used y. never y;
     }
-
-passed : {A : Type 0} (b : Bool) (x y : A) → b ≡ true → cond (not b) x y ≡ y
-passed b x y e = ap (λ (v : Bool). cond (not v) x y) e
 
 begun-look : (s o l : Bool) (d : Driver) (budget : ℕ) → d .opened ≡ o → (s && (o && l)) ≡ true → serviceCall s l d budget ≡ lookTalk budget d
 unfolding serviceCall

@@ -1,8 +1,6 @@
 -- A card at power-on is inactive, ignores the write, and shows the same whatever the memory holds. Assumes nothing.
 use mathlib.Core.Path.{_≡_, refl, sym, ap, _∙_}
-use mathlib.Core.Bool.{Bool, true, false}
-use mathlib.Core.List.{List}
-use Prim.Native.Nat.{ℕ, suc}
+use mathlib.Core.Bool.{false}
 use Rattle.card_rules.specs.Adapter.{Adapter}
 use Rattle.card_rules.specs.Power.{powerOn}
 use Rattle.card_rules.specs.View.{view, soundCard}

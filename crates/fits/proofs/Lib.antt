@@ -4,3 +4,4 @@ pub mod Card
 pub mod Driver
 pub mod Free
 pub mod Service
+pub mod Order

@@ -138,7 +138,7 @@ pub record Nothing-else-fits : Type 0 where
   -- the part handed up: its bytes, and its place
   pub hand-up : (look frame : RefT (List ℕ)) (n : ℕ)
       → Only (λ (r : RefT (List ℕ)). (now r ≡ handed (now look) (now frame) n) × (ptr r ≡ area n (ptr look) (ptr frame))) (λ r r′. (now r ≡ now r′) × (ptr r ≡ ptr r′))
-  -- search
+  -- port
   pub id-port : (b : Bus) (x : ℕ) → PortCalls b x
   -- idport, one card on the port
   pub fresh : (words : List ℕ) → Is (λ (r : IdState). r) (idFresh words)
@@ -146,14 +146,14 @@ pub record Nothing-else-fits : Type 0 where
   pub id-write : (s : IdState) (x byte : ℕ) → Is (λ (r : IdState). r) (idWrite s x byte)
   pub id-bit : (s : IdState) (x : ℕ) → Is (λ (r : ℕ). r) (idBit s x)
   pub id-after-read : (s : IdState) (x bus : ℕ) → Is (λ (r : IdState). r) (idAfterRead s x bus)
-  -- eeprom
+  -- image_check
   pub place-of : (w : WordOffset) → Is (λ (r : BytePlace). r .0) (image.placeOf (w .0))
   pub byte-at : (bytes : List ℕ) (place : BytePlace) → Is (λ (r : ℕ). r) (image.byteAt bytes (place .0))
   pub word-at : (bytes : List ℕ) (w : WordOffset) → Is (λ (r : ℕ). r) (image.wordAt bytes (w .0))
   pub checksum : (bytes : List ℕ) → Is (λ (r : ℕ). r) (image.checksumOf bytes)
   pub secondary : (bytes : List ℕ) → Is (λ (r : ℕ). r) (image.secondaryOf bytes)
   pub check : (bytes : List ℕ) → Is (λ (r : Checked). r) (image.checkOf bytes)
-  -- image_line: the line as long as it is; the bytes past its length are free
+  -- the line as long as it is; the bytes past its length are free
   pub line : (found : Checked) → Only (λ (r : Text). Says (lineOf found) (r .len) (r .bytes)) SameText
   pub line-judged : (bytes : List ℕ) → Only (λ (r : Text). Says (lineOf (image.checkOf bytes)) (r .len) (r .bytes)) SameText
   -- refusal

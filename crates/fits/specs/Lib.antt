@@ -2,3 +2,4 @@
 pub mod Agree
 pub mod Fits
 pub mod Free
+pub mod Order

@@ -11,7 +11,6 @@ use Rattle.refusal.specs.declared.Refusal.the-variants.{NeverOpened, AreaShort}
 use Rattle.refusal.specs.Number.{numberOf}
 use Rattle.bits.proofs.Tests.{both, never, of-cond}
 use Rattle.store.specs.Store.{atNewest}
-use Rattle.receive_rules.specs.Frame.{Frame}
 use Rattle.receive_rules.specs.Update.{withFrames, withWire}
 use Rattle.receive_rules.specs.Wire as wires
 use Rattle.receive_rules.specs.Wire.{begins, takes, fits, ends}
@@ -27,7 +26,7 @@ use Rattle.card_rules.specs.Sound.{sound}
 use Rattle.card_rules.proofs.Sides.{rx-of}
 use Rattle.card_rules.specs.Event as card
 use Rattle.card_rules.specs.Calls.{onWire, offWire}
-use Rattle.driver_rules.specs.Talk.{Talk, done, run}
+use Rattle.driver_rules.specs.Talk.{Talk, done}
 use Rattle.driver_rules.specs.declared.Answer.{Answer}
 use Rattle.driver_rules.specs.declared.Answer.the-variants as answer
 use Rattle.driver_rules.specs.Areas.{inLook, inFrame}

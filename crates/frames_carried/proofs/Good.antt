@@ -13,6 +13,7 @@ use Rattle.receive_rules.specs.Frame.{State, coming, whole, damaged, Frame, isC
 use Rattle.receive_rules.specs.Wire.{fresh, full, marked, takes, ending, endOf, ends}
 use Rattle.receive_rules.specs.Reading.{marks, unread, complete}
 use Rattle.receive_rules.specs.Sound.{sized, started, ended, inOrder}
+use Rattle.receive_rules.proofs.Keeps.{marked-comes}
 use Rattle.receive_rules.proofs.Taking.{takes-none, takes-marks, takes-longer}
 use Rattle.driver_rules.specs.Registers.{bad}
 use Rattle.frames_carried.specs.Bytes.{octets, codeFits, holdable}
@@ -33,12 +34,6 @@ coming-none (coming o) bytes c = refl
 coming-none whole bytes c = never c
 coming-none (damaged k) bytes c = never c
 
-marked-coming : (m : Bool) (s : State) → isComing (marked m s) ≡ isComing s
-unfolding isComing marked
-marked-coming m (coming o) = refl
-marked-coming m whole = refl
-marked-coming m (damaged k) = refl
-
 pub good-start : (fs : List Frame) (first : List ℕ) → good (fs ++ (fresh first ∷ [])) ≡ good fs
 unfolding good ifGood
 good-start fs first = good-append fs (fresh first ∷ []) ∙ append-nil (good fs)
@@ -51,7 +46,7 @@ unfolding good inOrder atNewest
 good-byte v space [] h = refl
 good-byte v space (f ∷ []) h =
     let c = started-coming f h in
-    rw (coming-none (marked (not (full f) && not space) (f .state)) (takes v space f .bytes) (marked-coming (not (full f) && not space) (f .state) ∙ c), coming-none (f .state) (f .bytes) c)
+    rw (coming-none (marked (not (full f) && not space) (f .state)) (takes v space f .bytes) (marked-comes (not (full f) && not space) (f .state) ∙ c), coming-none (f .state) (f .bytes) c)
 good-byte v space (f ∷ g ∷ fs) h =
     ap (λ (l : List (List ℕ)). ifGood (f .state) (f .bytes) ++ l) (good-byte v space (g ∷ fs) (both (ended f) (inOrder true (g ∷ fs)) h .1))
 
@@ -233,9 +228,6 @@ oldest-sized s f (g ∷ fs) h =
 
 abbrev pub shows : State → ℕ → ℕ
 shows s n = marks s + unread n 0
-
-small-count : (n : ℕ) → n ≤ 1792 → unread n 0 ≡ n
-small-count n h = omega arith
 
 -- a whole frame of 60 to 1,514 bytes is not bad
 pub whole-fine : (n : ℕ) → 60 ≤ n → n ≤ 1514 → bad n ≡ false

@@ -8,3 +8,4 @@ pub mod Memory
 pub mod One
 pub mod Service
 pub mod Still
+pub mod Host

@@ -19,8 +19,9 @@ use Rattle.card_rules.specs.declared.Lanes.{Lanes}
 use Rattle.card_rules.specs.declared.Lanes.the-variants.{Low, High}
 use Rattle.card_rules.specs.Write.{coversLow, coversHigh, write0, write1, write2, write3, write, writeWord, writeByte}
 use Rattle.card_rules.specs.Access.{Access, ReadWord, ReadByte, WriteWord, WriteByte, Step, effect, access}
-use Rattle.card_rules.proofs.StepEnds.{asleep, awake}
+use Rattle.card_rules.proofs.StepEnds.{awake}
 use Rattle.driver_rules.specs.declared.Driver.{Driver}
+use Rattle.driver_rules.proofs.Runs.{asleep-run}
 use Rattle.driver_rules.specs.Registers.{unfit}
 use Rattle.driver_rules.specs.Talk.{Talk, done, ask, run, writeWords}
 use Rattle.driver_rules.specs.Driver.{withError}
@@ -60,10 +61,6 @@ Fine x = (a : Adapter) → Still a ((effect x a) .adapter)
 pub fine-status : Fine (ReadWord 14)
 unfolding effect afterWord
 fine-status a = still-same a
-
-pub fine-rx : Fine (ReadWord 8)
-unfolding effect afterWord
-fine-rx a = still-same a
 
 fine-free : Fine (ReadWord 12)
 unfolding effect afterWord
@@ -169,13 +166,6 @@ still-send d packet a = still-run Any (sendTalk d packet) (quiet-send d packet) 
 
 -- ---- open: on an active card it selects window 2 first, where the address is written
 
-pub still-asleep : {A : Type 0} (t : Talk A) (a : Adapter) → a .id .active ≡ false → (run t a) .adapter ≡ a
-unfolding run
-still-asleep (done x) a n = refl
-still-asleep (ask x k) a n =
-    let e : (access x a) .adapter ≡ a = ap (λ (t : Step). t .adapter) (asleep x a n) in
-    still-asleep (k ((access x a) .value)) ((access x a) .adapter) (ap (λ (y : Adapter). y .id .active) e ∙ n) ∙ e
-
 -- an active card in a window, whose store is that of a
 record In (w : ℕ) (a b : Adapter) : Type 0 where
   active : b .id .active ≡ true
@@ -250,4 +240,4 @@ still-awake d w₀ w₁ w₂ a y =
 
 pub still-open : (d : Driver) (w₀ w₁ w₂ : ℕ) (a : Adapter) → Still a ((run (openTalk d w₀ w₁ w₂) a) .adapter)
 still-open d w₀ w₁ w₂ a =
-    by-test (a .id .active) (still-awake d w₀ w₁ w₂ a) (λ n. subst⁻¹ (Still a) (still-asleep (openTalk d w₀ w₁ w₂) a n) (still-same a))
+    by-test (a .id .active) (still-awake d w₀ w₁ w₂ a) (λ n. subst⁻¹ (Still a) (asleep-run (openTalk d w₀ w₁ w₂) a n) (still-same a))

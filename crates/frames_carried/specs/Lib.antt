@@ -3,3 +3,4 @@ pub mod Brings
 pub mod Bytes
 pub mod Carried
 pub mod Reads
+pub mod Host

@@ -3,6 +3,7 @@ mod printing;
 mod reading;
 mod round_trip; // round_trip.rt: what `hex` prints it reads back
 
+pub use printing::digit;
 pub use printing::put;
 pub use printing::put_byte;
 pub use printing::put_bytes;

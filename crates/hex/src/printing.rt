@@ -5,7 +5,7 @@ ghost use lib.ListN.{length};
 ghost use Rattle.bench_rules.specs.Text.{digitOf, byteText, wordText, bytesText, placesText, decimalText, Puts};
 
 // A hex digit, upper case.
-fn digit(d: u16) -> u8
+pub fn digit(d: u16) -> u8
     requires { ⌜ d < 16 ⌝ }
     ensures { λ r. ⌜ r ≡ digitOf d ⌝ }
 {
@@ -13,12 +13,6 @@ fn digit(d: u16) -> u8
         return b'0' + d as u8;
     }
     b'A' + (d as u8 - 10)
-}
-
-fn wide(b: u8) -> u16
-    ensures { λ r. ⌜ (r ≡ b) × (r < 256) ⌝ }
-{
-    b as u16
 }
 
 // Characters as they are.
@@ -39,7 +33,7 @@ pub fn put_byte(text: &mut [u8], at: usize, b: u8) -> usize
     requires { ⌜ at + 2 ≤ length (now text) ⌝ }
     ensures { λ r. ⌜ Puts (byteText b) at (now (text .entry)) (now (text .exit)) r ⌝ }
 {
-    let v = wide(b);
+    let v = bits::wide(b);
     text[at] = digit(v / 16);
     text[at + 1] = digit(v % 16);
     at + 2

@@ -1,6 +1,6 @@
 // Text to numbers.
 ghost use mathlib.Core.Path.{_≡_};
-ghost use Prim.Native.Nat.{_+_, _*_, _≤_, _<_};
+ghost use Prim.Native.Nat.{_+_, _*_, _≤_};
 ghost use lib.ListN.{length};
 ghost use Rattle.bench_rules.specs.Text.{valueOf, valued, numberOf, Paired};
 use bench_rules::Spelled;
@@ -30,18 +30,12 @@ fn value(b: u8) -> u8
     16
 }
 
-fn wide(b: u8) -> u32
-    ensures { λ r. ⌜ (r ≡ b) × (r < 256) ⌝ }
-{
-    b as u32
-}
-
 // One digit more. 65,536 stands for no number.
 fn more(base: u32, before: u32, b: u8) -> u32
     requires { ⌜ (base ≤ 16) × (before ≤ 65536) ⌝ }
     ensures { λ r. ⌜ (r ≡ valued base before b) × (r ≤ 65536) ⌝ }
 {
-    let d = wide(value(b));
+    let d = bits::wide(value(b)) as u32;
     if d >= base {
         return 65536;
     }

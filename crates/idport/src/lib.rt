@@ -85,10 +85,7 @@ pub fn id_after_read(mut s: IdState, port: u8, bus: u8) -> IdState
         if bus == mine {
             return s;
         }
-        s.command = false;
-        s.port = 16;
-        s.at = 0;
-        return s;
+        return command::waiting(s);
     }
     s
 }

@@ -12,7 +12,7 @@ fn tell(path: &[u8]) {
     let mut room = [0u8; 129];
     let n = io::read_full(fd, &mut room);
     libc::close(fd);
-    let said = image_line::judged(&room[..n]);
+    let said = image_check::judged(&room[..n]);
     let text = said.bytes;
     let len = said.len;
     io::write_all(STDOUT_FILENO, path);

@@ -2,12 +2,16 @@
 // No call here asks anything of its caller: past an image's end every byte counts as 0.
 mod one_byte; // one_byte.rt: what the image check is good for: theorems over its definitions
 mod walk;
+mod forms; // forms.rt: the two forms of the line
+pub mod text; // text.rt: the line that is printed
 
+pub use text::judged;
+pub use text::line;
 ghost use mathlib.Core.Path.{_≡_};
 ghost use Rattle.image_rules.specs.Image.{placeOf, byteAt, wordAt, checksumOf, secondaryOf, checkOf};
 use crate::walk::both_bytes;
-use crate::walk::pair;
 use crate::walk::span_xor;
+use bits::pair;
 use image_rules::BytePlace;
 use image_rules::Checked;
 use image_rules::WordOffset;

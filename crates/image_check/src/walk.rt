@@ -1,18 +1,10 @@
 // How the checksums walk the words.
 ghost use mathlib.Core.Path.{_≡_};
-ghost use Prim.Native.Nat.{_+_, _*_};
 ghost use Rattle.image_rules.specs.Image.{bothBytes, xorOf, span};
 use crate::byte_at;
 use crate::place_of;
 use image_rules::BytePlace;
 use image_rules::WordOffset;
-
-// Two bytes as a word.
-pub fn pair(high: u8, low: u8) -> u16
-    ensures { λ r. ⌜ r ≡ high * 256 + low ⌝ }
-{
-    (high as u16) * 256 + (low as u16)
-}
 
 // The exclusive-or of both bytes of a word.
 pub fn both_bytes(image: &[u8], w: WordOffset) -> u8

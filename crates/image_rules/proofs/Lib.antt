@@ -1,5 +1,7 @@
--- The EEPROM image: its words and bytes, the checksums, the check, and the line that the image program prints.
-pub mod EepromExamples
-pub mod ImageLineExamples
-pub mod Spans
+-- Laws and worked examples.
+-- the image: words, checksums, the check
 pub mod Xor
+pub mod Spans
+pub mod EepromExamples
+-- the line that is printed
+pub mod ImageLineExamples

@@ -1,4 +1,4 @@
--- What a private function of `image_line` ensures: nobody needs it to believe the line.
+-- What a private function of `image_check` ensures: nobody needs it to believe the line.
 -- Assumes nothing.
 use Prim.Native.Nat.{ℕ, _+_, _/_, _%_}
 use mathlib.Core.List.{List}

@@ -1,15 +1,18 @@
 // The fetch of a good frame, an item of a service.
 ghost use Prim.Native.Nat.{_≤_};
 ghost use lib.ListN.{length};
-ghost use Rattle.card_rules.specs.View.{view, Sound};
+ghost use Rattle.card_rules.specs.Access.{WriteWord, access};
+ghost use Rattle.card_rules.specs.View.{view, Sound, Stands};
+ghost use Rattle.driver_rules.specs.Registers.{commandPort, rxDiscard};
 ghost use Rattle.driver_rules.specs.Talk.{run};
 ghost use Rattle.driver_rules.specs.Items.{fetchTalk};
 ghost use Rattle.driver_rules.specs.Meets.{Ready, Ended, Read};
+use crate::sizes;
+use crate::telling;
 use card_rules::Card;
 use driver_rules::Answer;
 use driver_rules::Driver;
 use driver_rules::Served;
-use refusal::Refusal;
 
 // The n bytes of the oldest frame, into the front of `area`.
 fn read_frame(ram: &[u8], dir: &[u16], c: Card, area: &mut [u8], n: usize) -> Card
@@ -33,6 +36,14 @@ fn read_frame(ram: &[u8], dir: &[u16], c: Card, area: &mut [u8], n: usize) -> Ca
     at
 }
 
+// RX Discard: the oldest frame leaves the card.
+pub fn discard(ram: &mut [u8], dir: &mut [u16], c: Card) -> Card
+    requires { ⌜ Sound c (now ram) (now dir) ⌝ }
+    ensures { λ r. ⌜ Stands r (now (ram .exit)) (now (dir .exit)) ((access (WriteWord commandPort rxDiscard) (view c (now (ram .entry)) (now (dir .entry)))) .adapter) ⌝ }
+{
+    steps::write_word(ram, dir, c, driver_rules::STATUS, driver_rules::RX_DISCARD)
+}
+
 // A good frame of n bytes: its words and the discard, if there are accesses left for them.
 pub fn fetch(
     ram: &mut [u8],
@@ -49,44 +60,14 @@ pub fn fetch(
 {
     let cost = (n + 1) / 2 + 1;
     if left < cost {
-        return Served {
-            driver: d,
-            card: c,
-            answer: Answer::Refused(Refusal::BudgetShort),
-            left: left,
-            paused: false,
-        };
+        return telling::short(c, d, left);
     }
-    if n <= 256 {
+    if n <= sizes::LOOKAHEAD_AREA {
         let read = read_frame(ram, dir, c, look, n);
-        let end = steps::write_word(
-            ram,
-            dir,
-            read,
-            driver_rules::STATUS,
-            driver_rules::RX_DISCARD,
-        );
-        return Served {
-            driver: d,
-            card: end,
-            answer: Answer::Frame(n),
-            left: left - cost,
-            paused: false,
-        };
+        let end = discard(ram, dir, read);
+        return telling::ended(end, d, Answer::Frame(n), left - cost);
     }
     let read = read_frame(ram, dir, c, frame, n);
-    let end = steps::write_word(
-        ram,
-        dir,
-        read,
-        driver_rules::STATUS,
-        driver_rules::RX_DISCARD,
-    );
-    Served {
-        driver: d,
-        card: end,
-        answer: Answer::Frame(n),
-        left: left - cost,
-        paused: false,
-    }
+    let end = discard(ram, dir, read);
+    telling::ended(end, d, Answer::Frame(n), left - cost)
 }

@@ -5,10 +5,8 @@ ghost use Rattle.driver_rules.specs.Items.{reportTalk};
 ghost use Rattle.driver_rules.specs.Meets.{Tells};
 use crate::telling;
 use card_rules::Card;
-use driver_rules::Answer;
 use driver_rules::Driver;
 use driver_rules::Served;
-use refusal::Refusal;
 
 // The report of the oldest status, with 4 left. TX Enable only where no status is left: an error must not be passed over.
 pub fn report(ram: &mut [u8], dir: &mut [u16], c: Card, d: Driver, left: usize) -> Served
@@ -16,13 +14,7 @@ pub fn report(ram: &mut [u8], dir: &mut [u16], c: Card, d: Driver, left: usize) 
     ensures { λ r. ⌜ Tells left (run (reportTalk left d) (view c (now (ram .entry)) (now (dir .entry)))) r (view (r .card) (now (ram .exit)) (now (dir .exit))) × Sound (r .card) (now (ram .exit)) (now (dir .exit)) ⌝ }
 {
     if left < 4 {
-        return Served {
-            driver: d,
-            card: c,
-            answer: Answer::Refused(Refusal::BudgetShort),
-            left: left,
-            paused: false,
-        };
+        return telling::short(c, d, left);
     }
     let first = steps::read_byte(ram, dir, c, driver_rules::TX_STATUS);
     let status = first.value;

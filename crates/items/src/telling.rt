@@ -1,6 +1,8 @@
-// What the items of a service answer and leave: the report of a packet, a good frame, idle.
+// What the items of a service answer and leave: a refusal for want of accesses, any other end, the report of a packet.
 ghost use mathlib.Core.Path.{_≡_};
 ghost use mathlib.Core.Bool.{false};
+ghost use Rattle.refusal.specs.declared.Refusal.the-variants.{BudgetShort};
+ghost use Rattle.driver_rules.specs.declared.Answer.the-variants.{Refused};
 ghost use Rattle.driver_rules.specs.Driver.{withError};
 ghost use Rattle.driver_rules.specs.Items.{reports};
 use card_rules::Card;
@@ -8,6 +10,32 @@ use driver_rules::Answer;
 use driver_rules::Driver;
 use driver_rules::Served;
 use refusal::Refusal;
+
+// Budget short: what lacks its accesses isn't begun.
+pub fn short(c: Card, d: Driver, left: usize) -> Served
+    ensures { λ r. ⌜ r ≡ record { driver = d; card = c; answer = Refused BudgetShort; left = left; paused = false } ⌝ }
+{
+    Served {
+        driver: d,
+        card: c,
+        answer: Answer::Refused(Refusal::BudgetShort),
+        left: left,
+        paused: false,
+    }
+}
+
+// An item has come to its end.
+pub fn ended(c: Card, d: Driver, answer: Answer, left: usize) -> Served
+    ensures { λ r. ⌜ r ≡ record { driver = d; card = c; answer = answer; left = left; paused = false } ⌝ }
+{
+    Served {
+        driver: d,
+        card: c,
+        answer: answer,
+        left: left,
+        paused: false,
+    }
+}
 
 // Whether an error was seen.
 pub fn with_error(d: Driver, error: bool) -> Driver
@@ -34,19 +62,7 @@ pub fn told(c: Card, d: Driver, status: u16, left: usize) -> Served
             unreported: waiting - 1,
             error: d.error,
         };
-        return Served {
-            driver: next,
-            card: c,
-            answer: Answer::Reported(ticket, status),
-            left: left,
-            paused: false,
-        };
+        return ended(c, next, Answer::Reported(ticket, status), left);
     }
-    Served {
-        driver: d,
-        card: c,
-        answer: Answer::Status(status),
-        left: left,
-        paused: false,
-    }
+    ended(c, d, Answer::Status(status), left)
 }

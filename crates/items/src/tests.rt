@@ -6,41 +6,43 @@ ghost use Rattle.store.specs.Store.{round4};
 ghost use Rattle.driver_rules.specs.Driver.{driverSound};
 ghost use Rattle.driver_rules.specs.Packet.{outside, lacksRoom};
 ghost use Rattle.driver_rules.specs.Registers.{unfit, txComplete, rxComplete, bad};
+use crate::sizes;
 use driver_rules::Driver;
 
 // The driver's part of the test of soundness.
 pub fn driver_sound(d: Driver) -> bool
     ensures { λ r. ⌜ r ≡ driverSound d ⌝ }
 {
-    d.unreported <= 16
+    d.unreported <= sizes::MOST_UNREPORTED
 }
 
 // Whether a Status word has Adapter Failure or a window other than 1.
 pub fn is_unfit(status: u16) -> bool
     ensures { λ r. ⌜ r ≡ unfit status ⌝ }
 {
-    (status / 8192 != 1) | (status / 2 % 2 == 1)
+    (status / 8192 != 1) | bits::has(status, 2)
 }
 
 // Whether a Status word has TX Complete: a status waits on the stack.
 pub fn is_tx_complete(status: u16) -> bool
     ensures { λ r. ⌜ r ≡ txComplete status ⌝ }
 {
-    status / 4 % 2 == 1
+    bits::has(status, 4)
 }
 
 // Whether a Status word has RX Complete: the oldest frame has come to its end.
 pub fn is_rx_complete(status: u16) -> bool
     ensures { λ r. ⌜ r ≡ rxComplete status ⌝ }
 {
-    status / 16 % 2 == 1
+    bits::has(status, 16)
 }
 
 // RX Status with bit 14 set, or a raw count outside 60 to 1,514.
 pub fn is_bad(rx: u16) -> bool
     ensures { λ r. ⌜ r ≡ bad rx ⌝ }
 {
-    (rx / 16384 % 2 == 1) | ((rx % 2048 < 60) | (1514 < rx % 2048))
+    let count = rx % sizes::RAW_COUNT;
+    bits::has(rx, 16384) | ((count < sizes::SHORTEST_FRAME) | (sizes::LONGEST_FRAME < count))
 }
 
 // Byte i of a packet, 0 past its end.
@@ -65,7 +67,7 @@ pub fn round_up(n: usize) -> usize
 pub fn is_outside(n: usize) -> bool
     ensures { λ r. ⌜ r ≡ outside n ⌝ }
 {
-    (n < 14) | (1514 < n)
+    (n < sizes::SHORTEST_PACKET) | (sizes::LONGEST_PACKET < n)
 }
 
 // Whether TX Free is below what a packet of n bytes needs.

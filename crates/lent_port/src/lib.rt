@@ -11,9 +11,8 @@ use port_rules::Found;
 use port_rules::IdState;
 use port_rules::Wrote;
 
-mod look;
-mod seats;
-mod steps; // steps.rt: the covered steps of the calls over a lent slice of ID states: a look at one card, one card stepped, one card taken in or put back
+mod look; // look.rt: a look at one card, and one card stepped
+mod seats; // seats.rt: one card taken in or put back
 
 // A byte written to the port, which each card sees. A port is its I/O address, 100h to 1F0h.
 pub fn write(cards: &mut [IdState], port: u16, byte: u8) -> Wrote

@@ -2,7 +2,7 @@
 ghost use mathlib.Core.Path.{_≡_};
 ghost use Prim.Native.Nat.{_+_, min};
 ghost use mathlib.Core.List.{[], _∷_};
-ghost use Rattle.port_rules.specs.Calls.{digitOf, wroteReply, bitReply};
+ghost use Rattle.port_rules.specs.Calls.{wroteReply, bitReply};
 ghost use Rattle.lent_port.specs.Steps.{unseen, seenWith, writingOf, readingOf, writtenBy, heardBy, replyOf, portFits};
 use idport::id_after_read;
 use idport::id_bit;
@@ -54,19 +54,12 @@ fn least(a: u8, b: u8) -> u8
     b
 }
 
-// x of port 1x0h.
-fn digit(port: u16) -> u8
-    ensures { λ r. ⌜ r ≡ digitOf port ⌝ }
-{
-    (port / 16 % 16) as u8
-}
-
 // A card looked at: whether it is sound, and the bit that it would drive.
 pub fn at(seen: Seen, card: IdState) -> Seen
     ensures { λ r. ⌜ r ≡ seenWith seen card ⌝ }
 {
     let one = id_sound(card);
-    let x = digit(seen.port);
+    let x = idport::digit(seen.port);
     let mine = id_bit(card, x);
     let bit = least(seen.bit, mine);
     let count = one_more(seen.count);
@@ -97,7 +90,7 @@ pub fn writing(seen: Seen, byte: u8) -> Step
     ensures { λ r. ⌜ r ≡ writingOf seen byte ⌝ }
 {
     let fit = allowed(seen.port, seen.count);
-    let x = digit(seen.port);
+    let x = idport::digit(seen.port);
     Step {
         sound: seen.sound,
         fit: fit,
@@ -110,7 +103,7 @@ pub fn reading(seen: Seen) -> Step
     ensures { λ r. ⌜ r ≡ readingOf seen ⌝ }
 {
     let fit = allowed(seen.port, seen.count);
-    let x = digit(seen.port);
+    let x = idport::digit(seen.port);
     Step {
         sound: seen.sound,
         fit: fit,

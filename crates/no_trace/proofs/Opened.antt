@@ -15,11 +15,13 @@ use Rattle.card_rules.specs.Settle.{settle}
 use Rattle.card_rules.specs.Command.{acknowledge, act, command, commanded}
 use Rattle.card_rules.specs.Read.{afterWord}
 use Rattle.card_rules.specs.Write.{coversHigh, write, write1, write2, writeWord, writeByte}
-use Rattle.card_rules.specs.Access.{Access, ReadWord, ReadByte, WriteWord, WriteByte, Step, effect, ones, access}
+use Rattle.card_rules.specs.Access.{Access, ReadWord, ReadByte, WriteWord, WriteByte, Step, effect, access}
 use Rattle.card_rules.specs.Event as card
+use Rattle.card_rules.proofs.Active.{woken, is-woken}
 use Rattle.card_rules.proofs.StepEnds.{asleep, awake}
 use Rattle.card_rules.specs.Calls.{onWire, offWire}
 use Rattle.driver_rules.specs.declared.Driver.{Driver}
+use Rattle.driver_rules.proofs.Runs.{asleep-run}
 use Rattle.driver_rules.specs.Driver.{withError}
 use Rattle.driver_rules.specs.Registers.{unfit, txComplete, rxComplete, bad}
 use Rattle.driver_rules.specs.Talk.{Talk, done, ask, run, readWords, writeWords}
@@ -188,43 +190,10 @@ module _ (d : Driver) (h : d .opened ≡ true) where
 
 -- ---- open
 
--- an active card, by its shape
-abbrev woken : Adapter → Adapter
-woken a =
-    record {
-      id = record { command = a .id .command; port = a .id .port; at = a .id .at; tag = a .id .tag; shift = a .id .shift; address = a .id .address; active = true; due = a .id .due; words = a .id .words };
-      select = a .select;
-      lines = a .lines;
-      config = a .config;
-      prom = a .prom;
-      rx = a .rx;
-      tx = a .tx;
-    }
-
-is-woken : (a : Adapter) → a .id .active ≡ true → a ≡ woken a
-is-woken a h =
-    λ i.
-    record {
-      id = record { command = a .id .command; port = a .id .port; at = a .id .at; tag = a .id .tag; shift = a .id .shift; address = a .id .address; active = h i; due = a .id .due; words = a .id .words };
-      select = a .select;
-      lines = a .lines;
-      config = a .config;
-      prom = a .prom;
-      rx = a .rx;
-      tx = a .tx;
-    }
-
 -- Open sets the window and the masks of an active card, whatever they were.
-open-woken : (d : Driver) (w₀ w₁ w₂ : ℕ) (a : Adapter) → (run (openTalk d w₀ w₁ w₂) (woken a)) .adapter .select ≡ shown 5
+open-woken : (d : Driver) (w₀ w₁ w₂ : ℕ) (a : Adapter) → (run (openTalk d w₀ w₁ w₂) (woken true a)) .adapter .select ≡ shown 5
 unfolding run openTalk access effect commanded command act settle writeWord writeByte write write2
 open-woken d w₀ w₁ w₂ a = refl
-
--- an inactive card stays as it is
-asleep-run : {A : Type 0} (t : Talk A) (a : Adapter) → a .id .active ≡ false → (run t a) .adapter ≡ a
-unfolding run
-asleep-run (done x) a n = refl
-asleep-run (ask x k) a n =
-    ap (λ (t : Step). (run (k (t .value)) (t .adapter)) .adapter) (asleep x a n) ∙ asleep-run (k (ones x)) a n
 
 pub opens-set : (w₀ w₁ w₂ : ℕ) (b : Bench) → Set (next (Open w₀ w₁ w₂) b .adapter)
 unfolding next opens openCall

@@ -23,7 +23,7 @@ use Rattle.driver_rules.specs.Registers.{unfit, txComplete, rxComplete, bad}
 use Rattle.driver_rules.specs.Talk.{Talk, done, ask, run, readWords}
 use Rattle.driver_rules.specs.declared.Answer.{Answer}
 use Rattle.driver_rules.specs.declared.Answer.the-variants as answer
-use Rattle.driver_rules.specs.declared.Answer.the-variants.{Idle, Refused}
+use Rattle.driver_rules.specs.declared.Answer.the-variants.{Refused}
 use Rattle.driver_rules.specs.Items.{Serving, plain, short, isError, seen, reports, reportTalk, idleTalk, fetchTalk, wordsIn}
 use Rattle.driver_rules.specs.Service.{lookTalk, receiveTalk, dropTalk}
 use Rattle.driver_rules.specs.Calls.{serviceCall}

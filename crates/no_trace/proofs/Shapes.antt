@@ -7,15 +7,17 @@ use native.Mathlib.Omega.{arith}
 use borrow.Author.Tests.{eq-eqb}
 use lib.ListN.{length}
 use lib.Dec.{leb}
-use Rattle.port_rules.specs.declared.IdState.{IdState}
 use Rattle.receive_rules.specs.Frame.{State, coming, damaged, Frame, Rx, isComing}
 use Rattle.receive_rules.specs.Early.{earlyFlag, toldFlag}
 use Rattle.receive_rules.specs.Reading as reading
 use Rattle.receive_rules.specs.Reading.{rxStatus, marks, unread, complete, withoutOldest}
 use Rattle.transmit_rules.specs.Queue as queue
+use Rattle.transmit_rules.specs.Reports.{withSender, withStatuses, withAvailable}
 use Rattle.transmit_rules.specs.Outcome.{some, due}
+use Rattle.transmit_rules.specs.Tx.{onReports}
 use Rattle.card_rules.specs.declared.Flags.{Flags}
 use Rattle.card_rules.specs.Adapter.{Adapter}
+use Rattle.card_rules.specs.Update.{withSelect, withRx, withTx}
 use Rattle.card_rules.specs.Room.{txRoom}
 use Rattle.card_rules.specs.Status.{statusWord, interrupting}
 use Rattle.card_rules.specs.Settle.{settle}
@@ -23,6 +25,7 @@ use Rattle.card_rules.specs.Command.{acknowledge, act, command, commanded}
 use Rattle.card_rules.specs.Read.{window1, wordAt, afterWord}
 use Rattle.card_rules.specs.Write.{writeWord}
 use Rattle.card_rules.specs.Access.{ReadWord, WriteWord, step, effect, access}
+use Rattle.card_rules.proofs.Active.{woken}
 use Rattle.driver_rules.specs.declared.Driver.{Driver}
 use Rattle.driver_rules.specs.Registers.{unfit, txComplete, rxComplete, bad}
 use Rattle.driver_rules.specs.Talk.{Ran, run, extended}
@@ -41,25 +44,14 @@ side s e t w fs =
       frames = fs;
     }
 
-abbrev pub active : IdState → IdState
-active i = record { command = i .command; port = i .port; at = i .at; tag = i .tag; shift = i .shift; address = i .address; active = true; due = i .due; words = i .words }
-
 -- an open card that has nothing to report and no failure, with this receive side
 abbrev pub shape : Adapter → Rx → Adapter
 shape s x =
-    record {
-      id = active (s .id);
-      select = shown (s .select .filter);
-      lines = s .lines;
-      config = s .config;
-      prom = s .prom;
-      rx = x;
-      tx =
-          record {
-            queue = record { failed = false; packets = s .tx .queue .packets; part = s .tx .queue .part };
-            reports = record { sender = s .tx .reports .sender; statuses = [] };
-          };
-    }
+    woken true (withSelect (shown (s .select .filter)) (withRx x (withTx
+    (record {
+      queue = record { failed = false; packets = s .tx .queue .packets; part = s .tx .queue .part };
+      reports = withStatuses [] (s .tx .reports);
+    }) s)))
 
 abbrev pub frame : List ℕ → State → List Frame
 frame bs st = record { bytes = bs; state = st } ∷ []
@@ -90,23 +82,7 @@ Settled s = (dueIn s || s .tx .reports .sender .available) ≡ s .tx .reports .s
 abbrev available : Adapter → Rx → Bool → Adapter
 available s x v =
     let a = shape s x in
-    record {
-      id = a .id;
-      select = a .select;
-      lines = a .lines;
-      config = a .config;
-      prom = a .prom;
-      rx = x;
-      tx =
-          record {
-            queue = a .tx .queue;
-            reports =
-                record {
-                  sender = record { on = s .tx .reports .sender .on; available = v; level = s .tx .reports .sender .level; start = s .tx .reports .sender .start };
-                  statuses = [];
-                };
-          };
-    }
+    withTx (onReports (λ r. withSender (withAvailable v (r .sender)) r) (a .tx)) a
 
 pub settle-empty : (s : Adapter) → Settled s → (e t : Bool) (w : ℕ) → settle (shape s (side s e t w [])) ≡ shape s (side s false false w [])
 unfolding settle interrupting earlyFlag toldFlag queue.free

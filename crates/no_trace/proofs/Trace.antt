@@ -1,6 +1,6 @@
 -- Damaged frames leave no trace: one stretch, then any number. Assumes nothing.
 use mathlib.Core.Path.{_≡_, refl, ap, sym, _∙_, subst, subst⁻¹}
-use mathlib.Core.Bool.{Bool, true, false, cond, _||_}
+use mathlib.Core.Bool.{Bool, true, false, cond}
 use mathlib.Core.List.{List, [], _∷_, _++_, append-nil}
 use Prim.Native.Nat.{ℕ, _≤_}
 use native.Mathlib.Omega.{arith}
@@ -8,7 +8,10 @@ use Rattle.bits.proofs.Tests.{never, neither}
 use Rattle.receive_rules.specs.Reading.{readable}
 use Rattle.receive_rules.specs.Early.{earlyFlag, toldFlag}
 use Rattle.receive_rules.proofs.Facts.{sound-told}
+use Rattle.transmit_rules.specs.Reports.{withStatuses}
 use Rattle.card_rules.specs.Adapter.{Adapter}
+use Rattle.card_rules.specs.Update.{withSelect, withRx, withTx}
+use Rattle.card_rules.proofs.Active.{woken}
 use Rattle.card_rules.specs.Room.{rxRoom}
 use Rattle.card_rules.specs.Settle.{settle}
 use Rattle.card_rules.specs.Sound.{sound}
@@ -60,24 +63,16 @@ at-rest b s o c e w =
     λ i.
     record {
       adapter =
-          record {
-            id = record { command = a .id .command; port = a .id .port; at = a .id .at; tag = a .id .tag; shift = a .id .shift; address = a .id .address; active = c .active i; due = a .id .due; words = a .id .words };
-            select = o .set .is (c .active) i;
-            lines = a .lines;
-            config = a .config;
-            prom = a .prom;
-            rx =
-                record {
-                  receiver =
-                      record { on = a .rx .receiver .on; failed = f .0 i; early = not-early a s e i; told = not-told a s e i; threshold = a .rx .receiver .threshold; read = unread a s e i; wire = w i };
-                  frames = e i;
-                };
-            tx =
-                record {
-                  queue = record { failed = f .1 i; packets = a .tx .queue .packets; part = a .tx .queue .part };
-                  reports = record { sender = a .tx .reports .sender; statuses = c .statuses i };
-                };
-          };
+          woken (c .active i) (withSelect (o .set .is (c .active) i) (withRx
+          (record {
+            receiver =
+                record { on = a .rx .receiver .on; failed = f .0 i; early = not-early a s e i; told = not-told a s e i; threshold = a .rx .receiver .threshold; read = unread a s e i; wire = w i };
+            frames = e i;
+          }) (withTx
+          (record {
+            queue = record { failed = f .1 i; packets = a .tx .queue .packets; part = a .tx .queue .part };
+            reports = withStatuses (c .statuses i) (a .tx .reports);
+          }) a)));
       driver = record { opened = o .driver i; sent = b .driver .sent; unreported = b .driver .unreported; error = b .driver .error };
     }
 

@@ -36,12 +36,6 @@ pub struct Word {
     pub value: u16,
 }
 
-fn wide(x: u8) -> u16
-    ensures { λ r. ⌜ r ≡ x ⌝ }
-{
-    x as u16
-}
-
 // A read command for word `w` and 16 reads.
 fn read_word(b: Bus, port: u8, w: u8) -> Word
     requires { ⌜ (b .count ≤ 8) × (w < 64) ⌝ }
@@ -53,7 +47,7 @@ fn read_word(b: Bus, port: u8, w: u8) -> Word
     while i < 16 {
         let h = read(bus, port);
         let next = h.bus;
-        let bit = wide(h.bit);
+        let bit = bits::wide(h.bit);
         bus = next;
         value = value * 2 + bit;
         i += 1;

@@ -1,8 +1,8 @@
 -- What is gathered over the cards one after the other: the bit that the bus carries, and whether all are sound.
 -- Assumes nothing.
 use Prim.Native.Nat.{ℕ, zero, suc, _+_, _<_, _≤_, min}
-use mathlib.Core.Path.{_≡_, refl, sym, _∙_, ap}
-use mathlib.Core.Bool.{Bool, true, false, _&&_}
+use mathlib.Core.Path.{_≡_, sym, _∙_, ap}
+use mathlib.Core.Bool.{Bool, _&&_, and-true, and-assoc}
 use mathlib.Core.List.{List, [], _∷_, _++_, map}
 use native.Mathlib.Omega.{arith}
 use native.Mathlib.Numerals.{add-one}
@@ -39,18 +39,10 @@ bit-narrow p [] = omega arith
 bit-narrow p (x ∷ xs) = omega (arith, bit-narrow p xs)
 
 -- whether all are sound
-and-true : (b : Bool) → b ≡ b && true
-and-true true = refl
-and-true false = refl
-
-and-assoc : (a b c : Bool) → a && (b && c) ≡ a && b && c
-and-assoc true b c = refl
-and-assoc false b c = refl
-
 sound-snoc : (xs : List IdState) (s : IdState) → allSound (xs ++ (s ∷ [])) ≡ allSound xs && idSound s
 unfolding allSound
-sound-snoc [] s = sym (and-true (idSound s))
-sound-snoc (x ∷ xs) s = ap (λ (b : Bool). idSound x && b) (sound-snoc xs s) ∙ and-assoc (idSound x) (allSound xs) (idSound s)
+sound-snoc [] s = and-true (idSound s)
+sound-snoc (x ∷ xs) s = ap (λ (b : Bool). idSound x && b) (sound-snoc xs s) ∙ sym (and-assoc (idSound x) (allSound xs) (idSound s))
 
 pub sound-turn : (i : ℕ) (xs : List IdState) (d : IdState) (all one : Bool) → all ≡ allSound (take i xs) → one ≡ idSound (getD xs i d) → i < length xs → (all && one) ≡ allSound (take (i + 1) xs)
 sound-turn i xs d all one a o h = turn allSound (λ b s. b && idSound s) sound-snoc i xs d all (all && one) a (ap (λ (b : Bool). all && b) o) h

@@ -3,7 +3,6 @@ use mathlib.Core.Path.{_≡_, refl}
 use mathlib.Core.Bool.{true, false}
 use mathlib.Core.List.{List, [], _∷_}
 use Prim.Native.Nat.{ℕ, zero, suc}
-use lib.Bits.{bitXor}
 use Rattle.port_rules.specs.declared.IdState.{IdState}
 use Rattle.port_rules.specs.Sequence.{idNext, idByte}
 use Rattle.port_rules.specs.Card.{moved, tagged, loaded, idFresh, expected, idWait, idCommand, idWrite, idDrives, idBit, idAfterRead}

@@ -1,8 +1,11 @@
--- The ID port: the ID sequence, one card's ID state and its steps, the bit that the cards on one port leave, the search and the activation.
-pub mod Cards
+-- Laws and worked examples.
+-- the sequence, one card's steps, and which states are sound
 pub mod Chain
-pub mod Gathering
-pub mod IdportExamples
 pub mod Keep
+pub mod IdportExamples
+-- what is gathered over the cards on one port
+pub mod Gathering
 pub mod PortCardsExamples
+-- the port, the talks, what the public calls come to
+pub mod Cards
 pub mod SearchExamples

@@ -45,6 +45,15 @@ nine : portReads (bus (replicate 9 (obedient 0))) 0x110 .reply ≡ refused 12
 unfolding bus obedient judged allSound idSound allowed
 nine = refl
 
+-- a tag that is not 1 to 7, and a base number above 31: refusal 12
+tag-8 : activatesCard (bus []) 0x110 8 5 .reply ≡ refused 12
+unfolding bus judged allSound allowed naming
+tag-8 = refl
+
+base-32 : activatesCard (bus []) 0x110 1 32 .reply ≡ refused 12
+unfolding bus judged allSound allowed naming
+base-32 = refl
+
 -- ---- the search and the activation
 
 -- two zeros and 255 bytes, then D0h

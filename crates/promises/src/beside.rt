@@ -6,6 +6,7 @@ ghost use Rattle.sends_carried.specs.Carried.{A-send-answers-by-the-table, A-pa
 ghost use Rattle.sends_carried.specs.Rooms.{Bench-rows-of-TX-Free};
 ghost use Rattle.frames_carried.specs.Carried.{Stores-are-such, A-good-frame-arrives, One-good-frame-is-stored, One-good-frame-is-handed-up};
 ghost use Rattle.fits.specs.Free.{The-memory-is-left-free};
+ghost use Rattle.fits.specs.Order.{Refusals-come-in-order};
 ghost use Rattle.driver_rules.specs.Unfit.{Unfit-comes-at-once};
 ghost use Rattle.driver_examples.specs.Send.{Send-examples};
 ghost use Rattle.driver_examples.specs.Service.{Service-examples, A-frame-of-1514-bytes, What-a-good-frame-costs};
@@ -106,6 +107,11 @@ pub fn one_good_frame_is_handed_up()
 // The one thing left open, the memory that the view does not show, is open.
 pub fn the_memory_is_left_free()
     ensures { λ _. ⌜ The-memory-is-left-free ⌝ }
+{}
+
+// Every call's refusals come in the one order of the papers.
+pub fn refusals_come_in_order()
+    ensures { λ _. ⌜ Refusals-come-in-order ⌝ }
 {}
 
 // Refusal 5 comes at the first Status read of a service or not at all.

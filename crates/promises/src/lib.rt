@@ -7,8 +7,22 @@ ghost use Rattle.bench_table.specs.Table.{The-bench-table};
 ghost use Rattle.fits.specs.Fits.{Nothing-else-fits};
 ghost use Rattle.runs.specs.Sound.{Every-step-keeps-soundness};
 ghost use Rattle.run_calls.specs.Takes.{The-calls-take-the-steps};
+ghost use Rattle.sends_carried.specs.Host.{Host-packets-go-on-the-wire};
+ghost use Rattle.frames_carried.specs.Host.{Host-reads-bring-the-frame};
+ghost use Rattle.over_calls.specs.Over.{No-trace-over-calls};
+ghost use Rattle.over_calls.specs.Refused.{A-refused-call-changes-nothing};
 
 mod beside; // beside.rt: what stands beside the promises
+
+// Demand 1: a refused call hands back card, driver, memory and each lent area just as they came.
+pub fn a_refused_call_changes_nothing()
+    ensures { λ _. ⌜ A-refused-call-changes-nothing ⌝ }
+{}
+
+// Demand 3 over public calls: from any state that passes the code's own test, through any calls of which nothing is known but their contracts.
+pub fn no_trace_over_calls()
+    ensures { λ _. ⌜ No-trace-over-calls ⌝ }
+{}
 
 // Demand 3: a damaged frame leaves no trace. No byte of it is handed up, and no later answer differs.
 pub fn damaged_frames_leave_no_trace()
@@ -23,6 +37,16 @@ pub fn sends_are_carried()
 // Demand 2: what the wire brings is what the host reads, each good frame once, in order, byte for byte, and nothing else.
 pub fn what_the_wire_brings_is_what_the_host_reads()
     ensures { λ _. ⌜ What-the-wire-brings-is-what-the-host-reads ⌝ }
+{}
+
+// Demand 2 for a host that needs no driver: a packet written whole by register writes goes on the wire as it was written.
+pub fn host_packets_go_on_the_wire()
+    ensures { λ _. ⌜ Host-packets-go-on-the-wire ⌝ }
+{}
+
+// .. and the words read at the data port are the bytes of the oldest frame.
+pub fn host_reads_bring_the_frame()
+    ensures { λ _. ⌜ Host-reads-bring-the-frame ⌝ }
 {}
 
 // The search finds every card, in ascending order, and tags them from 1.

@@ -4,6 +4,8 @@ ghost use Prim.Native.Nat.{_*_, _-_, _≤_, _<_};
 ghost use lib.ListN.{length};
 ghost use Rattle.transmit_rules.specs.Leave.{toldOf, oldestWanted, leave};
 ghost use Rattle.transmit_rules.specs.QueueView.{queueOf, Holds, Turns, Tells};
+use crate::FIRST;
+use crate::RAM;
 use crate::telling;
 use transmit_rules::Fifo;
 
@@ -12,7 +14,7 @@ pub fn oldest_wanted(ram: &[u8], dir: &[u16], size: usize, f: Fifo) -> bool
     requires { ⌜ Holds size f (now ram) (now dir) × (0 < f .packets) ⌝ }
     ensures { λ r. ⌜ r ≡ oldestWanted (queueOf size f (now (ram .entry)) (now (dir .entry)) .packets) ⌝ }
 {
-    dir[768] / 2048 / 16 % 2 == 1
+    bits::has(dir[FIRST] / 2048, 16)
 }
 
 // What the wire is told of the oldest packet: the first bytes of `out`, as many as the answer says.
@@ -20,10 +22,10 @@ pub fn tell(ram: &[u8], dir: &[u16], size: usize, f: Fifo, out: &mut [u8]) -> us
     requires { ⌜ Holds size f (now ram) (now dir) × (0 < f .packets) × (1792 ≤ length (now out)) ⌝ }
     ensures { λ r. ⌜ Tells r (now (out .entry)) (now (out .exit)) (toldOf (queueOf size f (now (ram .entry)) (now (dir .entry)) .packets)) ⌝ }
 {
-    let w = dir[768];
+    let w = dir[FIRST];
     let len = (w % 2048) as usize;
     let n = telling::told_length(w);
-    telling::tell_bytes(ram, 8192 - size, len, n, out);
+    telling::tell_bytes(ram, RAM - size, len, n, out);
     n
 }
 
@@ -34,11 +36,11 @@ pub fn leave_first(ram: &mut [u8], dir: &mut [u16], size: usize, f: Fifo) -> Fif
 {
     let n = f.packets;
     let k = f.words;
-    let all = store::used(dir, 768, n);
-    let gone = store::room(dir[768]);
+    let all = store::used(dir, FIRST, n);
+    let gone = store::room(dir[FIRST]);
     let data = data_bytes(k);
-    store::shift_bytes(ram, 8192 - size, gone, all - gone + data);
-    store::shift_words(dir, 768, 1, n);
+    store::shift_bytes(ram, RAM - size, gone, all - gone + data);
+    store::shift_words(dir, FIRST, 1, n);
     Fifo {
         failed: f.failed,
         packets: n - 1,

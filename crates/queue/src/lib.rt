@@ -6,7 +6,7 @@ ghost use Rattle.transmit_rules.specs.Queue.{free};
 ghost use Rattle.transmit_rules.specs.Write.{put};
 ghost use Rattle.transmit_rules.specs.QueueView.{queueOf, Holds, Turns, soundFifo};
 use transmit_rules::Fifo;
-// The packets lie in the last `size` bytes of `ram`, with a word for each in `dir` from 768 on.
+// The packets lie in the last `size` bytes of `ram`, with a word for each in `dir` from `FIRST` on.
 
 mod good; // good.rt: the tests of soundness
 pub mod leaving; // leaving.rt: the oldest packet leaves the transmit FIFO: what is wanted of it, and what the wire is told
@@ -16,6 +16,15 @@ mod words; // words.rt: a word of data for the packet being written
 pub use leaving::leave_first;
 pub use leaving::oldest_wanted;
 pub use leaving::tell;
+
+// The bytes of the card's RAM.
+const RAM: usize = 8192;
+
+// The first directory word of the transmit area: those before it are the receiver's.
+const FIRST: usize = 768;
+
+// The longest packet.
+const LONGEST: u16 = 1792;
 
 // The test that a call makes of what it is handed.
 pub fn fifo_sound(ram: &[u8], dir: &[u16], size: usize, f: Fifo) -> bool
@@ -27,7 +36,7 @@ pub fn fifo_sound(ram: &[u8], dir: &[u16], size: usize, f: Fifo) -> bool
     if 341 < n {
         return false;
     }
-    let used = store::used(dir, 768, n);
+    let used = store::used(dir, FIRST, n);
     if size < used {
         return false;
     }
@@ -46,7 +55,7 @@ pub fn fifo_free(ram: &[u8], dir: &[u16], size: usize, f: Fifo) -> usize
 {
     let n = f.packets;
     let k = f.words;
-    size - (store::used(dir, 768, n) + 4 * n + 2 * k)
+    size - (store::used(dir, FIRST, n) + 4 * n + 2 * k)
 }
 
 // The host writes a word.
@@ -59,7 +68,7 @@ pub fn put_word(ram: &mut [u8], dir: &mut [u16], size: usize, f: Fifo, v: u16) -
     if f.failed {
         return f;
     }
-    let used = store::used(dir, 768, n);
+    let used = store::used(dir, FIRST, n);
     if size < used + 4 * n + 2 * k + 2 {
         return Fifo {
             failed: true,
@@ -68,20 +77,7 @@ pub fn put_word(ram: &mut [u8], dir: &mut [u16], size: usize, f: Fifo, v: u16) -
         };
     }
     if k == 0 {
-        let len = v % 2048;
-        if (6 <= len) & (len <= 1792) {
-            dir[768 + n] = v;
-            return Fifo {
-                failed: false,
-                packets: n,
-                words: 1,
-            };
-        }
-        return Fifo {
-            failed: true,
-            packets: n,
-            words: 0,
-        };
+        return words::put_first(ram, dir, size, f, v);
     }
     if k == 1 {
         return Fifo {
@@ -90,5 +86,5 @@ pub fn put_word(ram: &mut [u8], dir: &mut [u16], size: usize, f: Fifo, v: u16) -
             words: 2,
         };
     }
-    words::put_data(ram, dir, size, f, 8192 - size + used + 2 * (k - 2), v)
+    words::put_data(ram, dir, size, f, RAM - size + used + 2 * (k - 2), v)
 }

@@ -35,7 +35,7 @@ pub fn told_length(w: u16) -> usize
     ensures { λ r. ⌜ (r ≡ w % 2048 + cond (has 4 (w / 2048)) 0 (60 - w % 2048)) × (r ≤ 2048) ⌝ }
 {
     let len = (w % 2048) as usize;
-    if w / 2048 / 4 % 2 == 1 {
+    if bits::has(w / 2048, 4) {
         return len;
     }
     if len < 60 {

@@ -70,13 +70,3 @@ pub getD-past : (l : List ℕ) (i : ℕ) → length l ≤ i → getD l i 0 ≡ 0
 getD-past [] i h = refl
 getD-past (x ∷ l) zero h = absurd (omega arith)
 getD-past (x ∷ l) (suc i) h = getD-past l i (omega arith)
-
--- ---- an empty store
-
-pub packed-none : (size n : ℕ) (ram dir : List ℕ) → store.Sound (rxArea size) n ram dir → store.Sound (rxArea size) 0 ram dir
-unfolding store.roomOf
-packed-none size n ram dir S = record { in-ram = S .in-ram; in-dir = S .in-dir; few = omega arith; small = S .small; room = omega arith }
-
-pub shown-none : (size : ℕ) (ram dir : List ℕ) → framesOf size 0 ram dir ≡ []
-unfolding store.frames
-shown-none size ram dir = refl

@@ -1,6 +1,6 @@
 // The receive side, as functions.
 
-pub mod reading; // reading.rt: what the host reads of the receive side, and the commands that drop frames: RX Status, RX Complete, RX Free, the data read, RX Discard, RX Reset
+pub mod reading; // reading.rt: what the host reads of the receive side, and the commands that drop frames: RX Status, RX Complete, RX Free, the data read, RX Discard
 pub mod sound; // sound.rt: the receive side of the card: its registers, the frames stored, RX Early, and the test of its soundness
 pub mod wire; // wire.rt: the wire: a frame's start with its first 8 bytes, its single bytes, and its end
 
@@ -17,3 +17,18 @@ pub use wire::passes_filter;
 pub use wire::wire_byte;
 pub use wire::wire_end;
 pub use wire::wire_start;
+
+// The directory words of the receive area: one for each frame.
+const SLOTS: usize = 768;
+
+// A directory word from here on: the frame is still coming (bit 15).
+const COMING: u16 = 32768;
+
+// And from here on it has overrun (bit 14 too).
+const OVERRUN: u16 = 49152;
+
+// A frame's bytes past these are dropped.
+const LONGEST: u16 = 1792;
+
+// RX Early's threshold at reset.
+pub const EARLY_DEFAULT: u16 = 2044;

@@ -1,13 +1,14 @@
-// What the host reads of the receive side, and the commands that drop frames: RX Status, RX Complete, RX Free, the data read, RX Discard, RX Reset.
+// What the host reads of the receive side, and the commands that drop frames: RX Status, RX Complete, RX Free, the data read, RX Discard.
 ghost use mathlib.Core.Path.{_≡_};
 ghost use Prim.Native.Nat.{_<_};
 ghost use lib.ListN.{getD};
 ghost use Rattle.store.specs.Store as store;
-ghost use Rattle.receive_rules.specs.Reading.{rxStatus, complete, rxFree, oldest, dataWord, afterRead, discard as discardOf, deafened, rxReset};
+ghost use Rattle.receive_rules.specs.Reading.{rxStatus, complete, rxFree, oldest, dataWord, afterRead, discard as discardOf, deafened};
 ghost use Rattle.receive_rules.specs.View.{rxArea, framesOf, rxOf, Sound, Step};
+use crate::COMING;
+use crate::SLOTS;
 use crate::sound;
 use receive_rules::Receive;
-use receive_rules::Receiver;
 use store::Area;
 
 // RX Status shows the oldest frame.
@@ -17,13 +18,13 @@ pub fn rx_status(ram: &[u8], dir: &[u16], size: usize, r: Receive) -> u16
 {
     let count = r.frames;
     if count == 0 {
-        return 32768;
+        return COMING;
     }
     let w = dir[0];
     let n = w % 2048;
     let left = (n + 2048 - r.receiver.read) % 2048;
-    if 32768 <= w {
-        return 32768 + left;
+    if COMING <= w {
+        return COMING + left;
     }
     if 16384 <= w {
         return w - n + left;
@@ -41,7 +42,7 @@ pub fn rx_complete(ram: &[u8], dir: &[u16], size: usize, r: Receive) -> bool
         return false;
     }
     let w = dir[0];
-    !(32768 <= w)
+    !(COMING <= w)
 }
 
 // RX Free: the room that no stored frame takes.
@@ -53,12 +54,6 @@ pub fn rx_free(ram: &[u8], dir: &[u16], size: usize, r: Receive) -> usize
     size - store::used(dir, 0, count)
 }
 
-fn wide(b: u8) -> u16
-    ensures { λ r. ⌜ (r ≡ b) × (r < 256) ⌝ }
-{
-    b as u16
-}
-
 // A byte of the oldest frame, or 0 past its end.
 fn oldest_byte(ram: &[u8], dir: &[u16], size: usize, count: usize, i: usize) -> u16
     requires { ⌜ store.Sound (rxArea size) count (now ram) (now dir) × (0 < count) ⌝ }
@@ -68,13 +63,13 @@ fn oldest_byte(ram: &[u8], dir: &[u16], size: usize, count: usize, i: usize) -> 
         base: 0,
         size: size,
         first: 0,
-        slots: 768,
+        slots: SLOTS,
     };
     let n = (dir[0] % 2048) as usize;
     if n <= i {
         return 0;
     }
-    wide(store::first_byte(ram, dir, a, count, i))
+    bits::wide(store::first_byte(ram, dir, a, count, i))
 }
 
 // What a data read gives: the word, and the registers after it.
@@ -133,7 +128,7 @@ pub fn discard(ram: &mut [u8], dir: &mut [u16], size: usize, r: Receive) -> Rece
         base: 0,
         size: size,
         first: 0,
-        slots: 768,
+        slots: SLOTS,
     };
     let w = dir[0];
     store::drop_first(ram, dir, a, count);
@@ -143,7 +138,7 @@ pub fn discard(ram: &mut [u8], dir: &mut [u16], size: usize, r: Receive) -> Rece
     next.receiver.early = false;
     next.receiver.told = false;
     next.receiver.read = 0;
-    if 32768 <= w {
+    if COMING <= w {
         next.receiver.wire = 1;
         return next;
     }
@@ -158,25 +153,4 @@ pub fn deafen(wire: u8) -> u8
         return 1;
     }
     wire
-}
-
-// RX Reset drops everything, turns the receiver off and restores RX Early.
-pub fn rx_reset(ram: &[u8], dir: &[u16], size: usize, r: Receive) -> Receive
-    requires { ⌜ Sound size r (now ram) (now dir) ⌝ }
-    ensures { λ o. ⌜ Step size o (now (ram .entry)) (now (dir .entry)) (now (ram .exit)) (now (dir .exit)) (rxReset (rxOf size r (now (ram .entry)) (now (dir .entry)))) ⌝ }
-{
-    let wire = deafen(r.receiver.wire);
-    let receiver = Receiver {
-        on: false,
-        failed: false,
-        early: false,
-        told: false,
-        threshold: 2044,
-        read: 0,
-        wire: wire,
-    };
-    Receive {
-        receiver: receiver,
-        frames: 0,
-    }
 }

@@ -7,6 +7,9 @@ ghost use Rattle.receive_rules.specs.Reading.{readable};
 ghost use Rattle.receive_rules.specs.Early.{settleEarly};
 ghost use Rattle.receive_rules.specs.Sound.{inOrder, earlySettled};
 ghost use Rattle.receive_rules.specs.View.{rxArea, framesOf, rxOf, Packed, Step, soundSide, allEnded};
+use crate::COMING;
+use crate::LONGEST;
+use crate::SLOTS;
 use receive_rules::Receive;
 use receive_rules::Receiver;
 
@@ -23,7 +26,7 @@ pub fn settle_early(ram: &[u8], dir: &[u16], size: usize, r: Receive) -> Receive
         return next;
     }
     let w = dir[0];
-    let coming = 32768 <= w;
+    let coming = COMING <= w;
     let due = (r.receiver.threshold <= w % 2048) & !r.receiver.told;
     let early = coming & (due | r.receiver.early);
     let told = coming & (due | r.receiver.told);
@@ -42,7 +45,7 @@ pub fn readable_bytes(ram: &[u8], dir: &[u16], size: usize, count: usize) -> u16
     }
     let w = dir[0];
     let n = w % 2048;
-    if 32768 <= w {
+    if COMING <= w {
         return n;
     }
     (n + 3) / 4 * 4
@@ -58,7 +61,7 @@ fn all_ended(dir: &[u16], count: usize) -> bool
     while i < count {
         let w = dir[i];
         let n = w % 2048;
-        good = good & ((8 <= n) & (n <= 1792) & !(32768 <= w));
+        good = good & ((8 <= n) & (n <= LONGEST) & !(COMING <= w));
         i += 1;
     }
     good
@@ -77,7 +80,7 @@ fn in_order(ram: &[u8], dir: &[u16], size: usize, count: usize, storing: bool) -
     }
     let w = dir[count - 1];
     let n = w % 2048;
-    all_ended(dir, count - 1) & ((8 <= n) & (n <= 1792) & (32768 <= w))
+    all_ended(dir, count - 1) & ((8 <= n) & (n <= LONGEST) & (COMING <= w))
 }
 
 // Whether RX Early was set for the oldest frame if it is due, and for no other.
@@ -89,7 +92,7 @@ pub fn early_settled(ram: &[u8], dir: &[u16], size: usize, count: usize, r: Rece
         return !r.told;
     }
     let w = dir[0];
-    if w < 32768 {
+    if w < COMING {
         return !r.told;
     }
     r.told | (w % 2048 < r.threshold)
@@ -101,7 +104,7 @@ pub fn rx_sound(ram: &[u8], dir: &[u16], size: usize, r: Receive) -> bool
     ensures { λ o. ⌜ o ≡ soundSide size r (now (ram .entry)) (now (dir .entry)) ⌝ }
 {
     let count = r.frames;
-    if 768 < count {
+    if SLOTS < count {
         return false;
     }
     if size < store::used(dir, 0, count) {

@@ -8,6 +8,9 @@ ghost use Rattle.store.specs.Store as store;
 ghost use Rattle.receive_rules.specs.Wire.{address, passes, wireStart, fits, takes, wireByte, ending, wireEnd};
 ghost use Rattle.receive_rules.specs.Sound.{inOrder};
 ghost use Rattle.receive_rules.specs.View.{stateOf, rxArea, framesOf, rxOf, Sound, Turns, Step};
+use crate::LONGEST;
+use crate::OVERRUN;
+use crate::SLOTS;
 use receive_rules::Receive;
 use store::Area;
 
@@ -27,10 +30,10 @@ fn addressed(first: [u8; 8], a: [u8; 6]) -> bool
 pub fn passes_filter(filter: u16, station: [u8; 6], first: [u8; 8]) -> bool
     ensures { λ r. ⌜ r ≡ passes filter station first ⌝ }
 {
-    (filter / 8 % 2 == 1)
-        | (filter / 4 % 2 == 1) & addressed(first, [255; 6])
-        | (filter / 2 % 2 == 1) & (first[0] / 1 % 2 == 1)
-        | (filter / 1 % 2 == 1) & addressed(first, station)
+    bits::has(filter, 8)
+        | bits::has(filter, 4) & addressed(first, [255; 6])
+        | bits::has(filter, 2) & bits::has(bits::wide(first[0]), 1)
+        | bits::has(filter, 1) & addressed(first, station)
 }
 
 // A frame starts. It is stored if it is taken, the receiver is on and 8 bytes fit; else it is ignored to its end.
@@ -53,7 +56,7 @@ pub fn wire_start(
             base: 0,
             size: size,
             first: 0,
-            slots: 768,
+            slots: SLOTS,
         };
         let n = count + 1;
         store::begin(ram, dir, a, count, 16);
@@ -75,11 +78,11 @@ fn store_byte(ram: &mut [u8], dir: &mut [u16], size: usize, count: usize, b: u8)
         base: 0,
         size: size,
         first: 0,
-        slots: 768,
+        slots: SLOTS,
     };
     let last = dir[count - 1];
     let n = (last % 2048) as usize;
-    if (49152 <= last) | (1792 <= n) {
+    if (OVERRUN <= last) | (LONGEST <= last % 2048) {
         return;
     }
     let older = store::used(dir, 0, count) - store::room(last);
@@ -105,7 +108,7 @@ fn end_head(last: u16, check: bool, alignment: bool) -> u16
     ensures { λ r. ⌜ (stateOf r ≡ ending (leb 49152 last) (last % 2048) check alignment) × (r < 32) ⌝ }
 {
     let n = last % 2048;
-    if 49152 <= last {
+    if OVERRUN <= last {
         return 8;
     }
     if 1514 < n {
@@ -144,7 +147,7 @@ pub fn wire_end(
         base: 0,
         size: size,
         first: 0,
-        slots: 768,
+        slots: SLOTS,
     };
     let count = r.frames;
     let last = dir[count - 1];

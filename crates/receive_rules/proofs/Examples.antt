@@ -6,7 +6,7 @@ use Prim.Native.Nat.{ℕ, zero, suc}
 use lib.ListN.{replicate}
 use Rattle.store.specs.Store.{atNewest, frames, roomOf}
 use Rattle.receive_rules.specs.Frame.{coming, Frame, Rx, isComing, overran, room}
-use Rattle.receive_rules.specs.Update.{withFailed, withEarly, withThreshold, withReceiver}
+use Rattle.receive_rules.specs.Update.{withOn, withFailed, withEarly, withThreshold, withReceiver}
 use Rattle.receive_rules.specs.Wire.{passes, begins, wireStart, marked, wireByte, ending, wireEnd}
 use Rattle.receive_rules.specs.Reading.{marks, rxStatus, readable, oldest, dataWord, afterRead, withoutOldest, discard}
 use Rattle.receive_rules.specs.Early.{earlyFlag, toldFlag, settleEarly}
@@ -40,10 +40,14 @@ fed-60 : fed 52 (settleEarly (wireStart 5120 true (replicate 8 7) (side 0 []))) 
 unfolding fed side arriving wireStart begins wireByte marked atNewest room overran isComing earlyFlag toldFlag
 fed-60 = refl
 
--- a frame that is not taken, or whose 8 bytes don't fit, is ignored
+-- a frame that is not taken, that comes to a receiver that is off, or whose 8 bytes don't fit, is ignored
 ignored : wireStart 5120 false (replicate 8 7) (side 0 []) ≡ side 1 []
 unfolding side wireStart begins
 ignored = refl
+
+off : wireStart 5120 true (replicate 8 7) (withReceiver (withOn false (side 0 [] .receiver)) (side 0 [])) ≡ withReceiver (withOn false (side 1 [] .receiver)) (side 1 [])
+unfolding side wireStart begins
+off = refl
 
 no-room : wireStart 7 true (replicate 8 7) (side 0 []) ≡ side 1 []
 unfolding side wireStart begins room

@@ -14,14 +14,9 @@ use Rattle.receive_rules.specs.Update.{withOn, withEarly, withThreshold,
 use Rattle.receive_rules.specs.Wire.{fresh, begins, fits8, wireStart, longer, fits, full, marked, takes, wireByte, ending, ends, wireEnd}
 use Rattle.receive_rules.specs.Reading.{readable, beyond, afterRead, withoutOldest, discard, deafened, earlyDefault, rxReset}
 use Rattle.receive_rules.specs.Sound.{sized, ended, started, inOrder, earlySettled, kept, sound}
-use Rattle.bits.proofs.Tests.{by-test, both, join, never}
+use Rattle.bits.proofs.Tests.{by-test, both, join, never, of-test}
 use Rattle.receive_rules.proofs.Laws.{room-snoc}
 use Rattle.receive_rules.proofs.Facts.{Kept, kept-shown, sound-told, sound-shown, sound-kept}
-
--- a property of both ways holds of the way that is taken
-pick : {A : Type 0} (P : A → Type 0) (t : Bool) (x y : A) → (t ≡ true → P x) → (t ≡ false → P y) → P (cond t x y)
-pick P true x y p q = p refl
-pick P false x y p q = q refl
 
 -- ---- one frame
 
@@ -40,7 +35,7 @@ started-told f h =
 started-shown : (f : Frame) → Started f → started f ≡ true
 started-shown f s = rw (le-leb 8 _ (s .least), le-leb _ 1792 (s .most), s .comes)
 
-marked-comes : (m : Bool) (s : State) → isComing (marked m s) ≡ isComing s
+pub marked-comes : (m : Bool) (s : State) → isComing (marked m s) ≡ isComing s
 unfolding marked isComing
 marked-comes m (coming o) = refl
 marked-comes m whole = refl
@@ -238,10 +233,10 @@ leaves size (f ∷ g ∷ fs) x k =
 read-facts : (size : ℕ) (x : Rx) → Kept size x → Kept size (afterRead x)
 unfolding afterRead
 read-facts size x k =
-    pick (λ (r : Receiver). Kept size (withReceiver r x)) (x .receiver .failed) _ _
+    of-test (λ (r : Receiver). Kept size (withReceiver r x)) (x .receiver .failed)
     (λ e. k)
     (λ e.
-    pick (λ (r : Receiver). Kept size (withReceiver r x)) (beyond x) _ _
+    of-test (λ (r : Receiver). Kept size (withReceiver r x)) (beyond x)
     (λ t. record { space = k .space; wire = k .wire; order = k .order; read = k .read; threshold = k .threshold; early = k .early })
     (λ t. record { space = k .space; wire = k .wire; order = k .order; read = ltb-false _ _ t; threshold = k .threshold; early = k .early }))
 
@@ -265,7 +260,7 @@ module _ (size : ℕ) (x : Rx) (h : sound size x ≡ true) where
 
   pub discard-kept : kept size (discard x) ≡ true
   unfolding discard
-  discard-kept = kept-shown size _ (pick (Kept size) (x .receiver .failed) x _ (λ e. facts) (λ e. leaves size (x .frames) x facts))
+  discard-kept = kept-shown size _ (of-test (Kept size) (x .receiver .failed) (λ e. facts) (λ e. leaves size (x .frames) x facts))
 
   pub on-kept : (v : Bool) → kept size (withReceiver (withOn v (x .receiver)) x) ≡ true
   on-kept v = sound-kept size x h
@@ -309,7 +304,7 @@ empty-sound size wire threshold on failed w t =
 
 -- a frame on the wire is ignored to its end
 pub deafened-quiet : (wire : ℕ) → wire ≤ 2 → deafened wire < 2
-deafened-quiet wire h = pick (λ (n : ℕ). n < 2) (eqb wire 2) 1 wire (λ e. lit< tt) (λ e. let n = eqb-false wire 2 e in omega arith)
+deafened-quiet wire h = of-test (λ (n : ℕ). n < 2) (eqb wire 2) (λ e. lit< tt) (λ e. let n = eqb-false wire 2 e in omega arith)
 
 pub reset-sound : (size : ℕ) (x : Rx) → x .receiver .wire ≤ 2 → sound size (rxReset x) ≡ true
 unfolding rxReset

@@ -1,6 +1,6 @@
 -- The order of the frames, and what the directory's words say of it. Assumes nothing.
 use mathlib.Core.Path.{_≡_, refl, sym, ap, _∙_}
-use mathlib.Core.Bool.{Bool, true, false, not, _&&_}
+use mathlib.Core.Bool.{Bool, true, false, not, _&&_, and-true, and-assoc}
 use mathlib.Core.List.{List, [], _∷_, _++_, map}
 use Prim.Native.Nat.{ℕ, zero, suc, _+_, _*_, _-_, _%_, _≤_, _<_}
 use native.Mathlib.Numerals.{add-one}
@@ -18,19 +18,11 @@ use Rattle.receive_rules.specs.View.{told, rxArea, framesOf, endedWord, 
 use Rattle.bits.proofs.Tests.{both}
 use Rattle.receive_rules.proofs.Laws.{coming-word, room-told}
 
-and-true : (b : Bool) → (b && true) ≡ b
-and-true true = refl
-and-true false = refl
-
-and-assoc : (a b c : Bool) → (a && (b && c)) ≡ (a && b && c)
-and-assoc true b c = refl
-and-assoc false b c = refl
-
 -- the words, one more
 pub all-snoc : (ws : List ℕ) (w : ℕ) → allEnded (ws ++ (w ∷ [])) ≡ (allEnded ws && endedWord w)
 unfolding allEnded
 all-snoc [] w = and-true (endedWord w)
-all-snoc (x ∷ ws) w = ap (λ (t : Bool). endedWord x && t) (all-snoc ws w) ∙ and-assoc (endedWord x) (allEnded ws) (endedWord w)
+all-snoc (x ∷ ws) w = ap (λ (t : Bool). endedWord x && t) (all-snoc ws w) ∙ sym (and-assoc (endedWord x) (allEnded ws) (endedWord w))
 
 pub all-more : (dir : List ℕ) (i : ℕ) → i < length dir → (allEnded (take i dir) && endedWord (getD dir i 0)) ≡ allEnded (take (i + 1) dir)
 all-more dir i h = sym (ap (λ (j : ℕ). allEnded (take j dir)) (add-one i) ∙ ap allEnded (take-suc dir i 0 h) ∙ all-snoc (take i dir) (getD dir i 0))
@@ -55,7 +47,7 @@ order-tip (x ∷ []) w m h =
 order-tip (x ∷ y ∷ ws) w m h =
     let k : length (drop (round4 (x % 2048)) m) ≡ length m - round4 (x % 2048) = length-drop (round4 (x % 2048)) m in
     rw (length-take-le (x % 2048) m (omega arith), coming-word x)
-    (sym (and-assoc (endedWord x) (allEnded (y ∷ ws)) (sized (w % 2048) && leb 32768 w))
+    (and-assoc (endedWord x) (allEnded (y ∷ ws)) (sized (w % 2048) && leb 32768 w)
     ∙ ap (λ (t : Bool). endedWord x && t) (order-tip (y ∷ ws) w (drop (round4 (x % 2048)) m) (omega arith)))
 
 part-length : (l : List ℕ) (n : ℕ) → n ≤ length l → length (take n (drop 0 l)) ≡ n

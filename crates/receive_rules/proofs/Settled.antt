@@ -36,15 +36,16 @@ settled-sound size x h =
     let q = flags-settled (x .receiver) (x .frames) (k .early) in
     sound-shown size (settleEarly x) (record { space = k .space; wire = k .wire; order = k .order; read = k .read; threshold = k .threshold; early = q .0 }) (q .1)
 
+-- where no frame is coming neither flag stands
+over : (told early : Bool) → (told || not early) ≡ true → not told ≡ true → (false ≡ early) × (false ≡ told)
+over true early h e = never e
+over false true h e = never h
+over false false h e = (refl, refl)
+
 -- settling changes nothing that is settled
 flags-same : (r : Receiver) (fs : List Frame) → (r .told || not (r .early)) ≡ true → earlySettled r fs ≡ true → (earlyFlag r fs ≡ r .early) × (toldFlag r fs ≡ r .told)
 unfolding earlyFlag toldFlag earlySettled
-flags-same r [] h e = way (r .told) (r .early) h e
-  where
-    way : (told early : Bool) → (told || not early) ≡ true → not told ≡ true → (false ≡ early) × (false ≡ told)
-    way true early h e = never e
-    way false true h e = never h
-    way false false h e = (refl, refl)
+flags-same r [] h e = over (r .told) (r .early) h e
 flags-same r (f ∷ fs) h e =
     by-test (isComing (f .state))
     (λ y. rw y (coming (r .told) (r .early) (leb (r .threshold) (length (f .bytes))) (rw y at e) (λ t. le-ltb _ _ (leb-true (r .threshold) (length (f .bytes)) t))))
@@ -56,11 +57,6 @@ flags-same r (f ∷ fs) h e =
     coming true early false e l = (refl, refl)
     coming false early true e l = never (sym (l refl) ∙ e)
     coming false early false e l = (refl, refl)
-
-    over : (told early : Bool) → (told || not early) ≡ true → not told ≡ true → (false ≡ early) × (false ≡ told)
-    over true early h e = never e
-    over false true h e = never h
-    over false false h e = (refl, refl)
 
 pub settled-same : (size : ℕ) (x : Rx) → sound size x ≡ true → settleEarly x ≡ x
 settled-same size x h =

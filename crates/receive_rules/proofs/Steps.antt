@@ -5,18 +5,14 @@ use mathlib.Core.Bool.{true}
 use mathlib.Core.List.{List, map}
 use Prim.Native.Nat.{ℕ, _≤_}
 use native.Mathlib.Omega.{arith}
-use lib.ListN.{length}
 use Rattle.store.specs.Store as store
 use Rattle.store.specs.declared.Area.{Area}
 use Rattle.store.proofs.Lift.{apart-kept}
 use Rattle.receive_rules.specs.declared.Receive.{Receive}
 use Rattle.receive_rules.specs.Frame.{Frame, Rx}
-use Rattle.receive_rules.specs.Early.{settleEarly}
-use Rattle.receive_rules.specs.Sound.{kept, sound}
+use Rattle.receive_rules.specs.Sound.{sound}
 use Rattle.receive_rules.specs.View.{told, rxArea, rxOf, Packed, Sound, Turns, Step}
 use Rattle.receive_rules.proofs.Oldest.{none as empty}
-use Rattle.receive_rules.proofs.Keeps.{empty-resized}
-use Rattle.receive_rules.proofs.Settled.{settled-sound}
 
 same-kept : (i n : ℕ) (l : List ℕ) → store.Kept i n l l
 same-kept i n l = record { below = refl; above = refl; long = refl }
@@ -35,26 +31,10 @@ step-turns size r ram dir ram′ dir′ fs x T e = record {
   dir-kept = T .dir-kept;
 }
 
--- an effect, and then RX Early settled
-pub step-settled : (size : ℕ) (q r : Receive) (ram dir ram′ dir′ : List ℕ) (x : Rx) → Step size q ram dir ram′ dir′ x
-    → Step size r ram′ dir′ ram′ dir′ (settleEarly (rxOf size q ram′ dir′)) → Step size r ram dir ram′ dir′ (settleEarly x)
-step-settled size q r ram dir ram′ dir′ x A B = record {
-  shows = B .shows ∙ ap (λ (y : Rx). settleEarly y) (A .shows);
-  packed = B .packed;
-  ram-kept = A .ram-kept;
-  dir-kept = A .dir-kept;
-}
-
 -- a step to what is sound ends sound
 pub step-sound : (size : ℕ) (r : Receive) (ram dir ram′ dir′ : List ℕ) (x : Rx) → size ≤ 6144 → Step size r ram dir ram′ dir′ x → sound size x ≡ true
     → Sound size r ram′ dir′
 step-sound size r ram dir ram′ dir′ x small A s = record { small = small; packed = A .packed; calm = ap (λ (y : Rx). sound size y) (A .shows) ∙ s }
-
--- .. and so does an effect that is kept, with RX Early settled after it
-pub settles-sound : (size : ℕ) (q r : Receive) (ram dir ram′ dir′ : List ℕ) (x : Rx) → size ≤ 6144 → kept size x ≡ true → Step size q ram dir ram′ dir′ x
-    → Step size r ram′ dir′ ram′ dir′ (settleEarly (rxOf size q ram′ dir′)) → Sound size r ram′ dir′
-settles-sound size q r ram dir ram′ dir′ x small k A B =
-    step-sound size r ram dir ram′ dir′ (settleEarly x) small (step-settled size q r ram dir ram′ dir′ x A B) (settled-sound size x k)
 
 -- ---- a change outside the receiver's area, as the transmit side makes it: its first byte and its first word are the next
 module _ (size m k : ℕ) (r : Receive) (ram dir ram′ dir′ : List ℕ) (R : store.Kept size m ram ram′) (D : store.Kept 768 k dir dir′) where
@@ -70,19 +50,8 @@ module _ (size m k : ℕ) (r : Receive) (ram dir ram′ dir′ : List ℕ) (R : 
   pub apart-same : Packed size r ram dir → rxOf size r ram′ dir′ ≡ rxOf size r ram dir
   apart-same P = both P .1
 
-  pub apart-sound : Sound size r ram dir → Sound size r ram′ dir′
-  apart-sound S = record { small = S .small; packed = apart-packed (S .packed); calm = ap (λ (y : Rx). sound size y) (apart-same (S .packed)) ∙ S .calm }
-
 -- ---- the RAM is split anew while nothing is stored
 
 module _ (size other : ℕ) (r : Receive) (ram dir : List ℕ) (none : r .frames ≡ 0) where
   pub resized-same : rxOf other r ram dir ≡ rxOf size r ram dir
   resized-same = rw (empty other (r .frames) ram dir none, empty size (r .frames) ram dir none)
-
-  pub resized-sound : other ≤ 6144 → 6144 ≤ length ram → Sound size r ram dir → Sound other r ram dir
-  unfolding store.roomOf
-  resized-sound small long S = record {
-    small = small;
-    packed = record { in-ram = omega arith; in-dir = S .packed .in-dir; few = S .packed .few; small = S .packed .small; room = rw none (omega arith) };
-    calm = ap (λ (y : Rx). sound other y) resized-same ∙ empty-resized size other (rxOf size r ram dir) (empty size (r .frames) ram dir none) (S .calm);
-  }

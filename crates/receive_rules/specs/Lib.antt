@@ -1,8 +1,9 @@
--- What the contracts of the receive side cite, in the order of document 01's section "Receiving".
-pub mod Early
+-- The receive side: frames in memory, the wire, what the host reads, soundness.
+-- in the order of document 01's section "Receiving"
 pub mod Frame
-pub mod Reading
-pub mod Sound
 pub mod Update
-pub mod View
 pub mod Wire
+pub mod Reading
+pub mod Early
+pub mod Sound
+pub mod View

@@ -1,2 +1,3 @@
 -- What the contracts of `refusal` cite.
 pub mod Number
+pub mod Order

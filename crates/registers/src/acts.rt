@@ -9,8 +9,6 @@ ghost use Rattle.card_rules.specs.Groups.{cardSelect, cardLines, cardReceiver, 
 ghost use Rattle.card_rules.specs.View.{Does};
 ghost use Rattle.card_rules.specs.Command.{mask as maskOf, earlyThreshold, rxReset, txReset, acknowledge as acknowledgeOf};
 use card_rules::Card;
-use receive_rules::Receive;
-use receive_rules::Receiver;
 use transmit::outcomes;
 use transmit_rules::Fifo;
 use transmit_rules::Outcomes;
@@ -40,19 +38,7 @@ pub fn rx_reset(c: Card) -> Card
     ensures { λ r. ⌜ Does c r rxReset ⌝ }
 {
     let wire = receive::deafen(c.receive.receiver.wire);
-    let receiver = Receiver {
-        on: false,
-        failed: false,
-        early: false,
-        told: false,
-        threshold: 2044,
-        read: 0,
-        wire: wire,
-    };
-    let receive = Receive {
-        receiver: receiver,
-        frames: 0,
-    };
+    let receive = regs::quiet(wire);
     let mut next = c;
     next.select.filter = 0;
     next.receive = receive;
@@ -107,10 +93,10 @@ pub fn acknowledge(c: Card, x: u16) -> Card
     requires { ⌜ Stacked (c .transmit .outcomes) ⌝ }
     ensures { λ r. ⌜ Does c r (acknowledgeOf x) ⌝ }
 {
-    let latch = !(x / 1 % 2 == 1) & c.lines.latch;
-    let requested = !(x / 64 % 2 == 1) & c.lines.requested;
-    let early = !(x / 32 % 2 == 1) & c.receive.receiver.early;
-    let o = outcomes::acknowledge(c.transmit.outcomes, x / 8 % 2 == 1);
+    let latch = !bits::has(x, 1) & c.lines.latch;
+    let requested = !bits::has(x, 64) & c.lines.requested;
+    let early = !bits::has(x, 32) & c.receive.receiver.early;
+    let o = outcomes::acknowledge(c.transmit.outcomes, bits::has(x, 8));
     let mut next = with_outcomes(c, o);
     next.lines.latch = latch;
     next.lines.requested = requested;

@@ -1,7 +1,7 @@
 // The EEPROM behind window 0: its commands, at once.
 ghost use mathlib.Core.Path.{_≡_};
 ghost use Prim.Native.Nat.{_<_};
-ghost use Rattle.card_rules.specs.Eeprom.{writeAll, eraseAll, writeWord, eraseWord, readWord, whole, promCommand};
+ghost use Rattle.card_rules.specs.Eeprom.{leaving as leavingOf, writeAll, eraseAll, writeWord, eraseWord, readWord, whole, promCommand};
 use card_rules::Prom;
 use card_rules::Setup;
 use port_rules::IdState;
@@ -61,45 +61,40 @@ fn erase_all(i: IdState) -> IdState
     next
 }
 
+// The state that a command leaves: its byte is kept, and whether erasing and writing is enabled after it.
+fn leaving(v: u8, writable: bool, i: IdState) -> Setup
+    ensures { λ r. ⌜ r ≡ leavingOf v writable i ⌝ }
+{
+    Setup {
+        id: i,
+        prom: Prom {
+            last: v,
+            writable: writable,
+        },
+    }
+}
+
 // The commands of op code 00.
 fn whole_command(v: u8, i: IdState, p: Prom) -> Setup
     ensures { λ r. ⌜ r ≡ whole v i p ⌝ }
 {
     let which = v % 64 / 16;
     if which == 3 {
-        return Setup {
-            id: i,
-            prom: Prom {
-                last: v,
-                writable: true,
-            },
-        };
+        return leaving(v, true, i);
     }
-    let off = Prom {
-        last: v,
-        writable: false,
-    };
     if which == 2 {
         if p.writable {
-            let next = erase_all(i);
-            return Setup {
-                id: next,
-                prom: off,
-            };
+            return leaving(v, false, erase_all(i));
         }
-        return Setup { id: i, prom: off };
+        return leaving(v, false, i);
     }
     if which == 1 {
         if p.writable {
-            let next = write_all(i);
-            return Setup {
-                id: next,
-                prom: off,
-            };
+            return leaving(v, false, write_all(i));
         }
-        return Setup { id: i, prom: off };
+        return leaving(v, false, i);
     }
-    Setup { id: i, prom: off }
+    leaving(v, false, i)
 }
 
 // An EEPROM command.
@@ -109,38 +104,19 @@ pub fn prom_command(v: u8, i: IdState, p: Prom) -> Setup
     let code = v / 64;
     let n = (v % 64) as usize;
     if code == 2 {
-        let next = read_register(i, n);
-        return Setup {
-            id: next,
-            prom: Prom {
-                last: v,
-                writable: p.writable,
-            },
-        };
+        return leaving(v, p.writable, read_register(i, n));
     }
-    let off = Prom {
-        last: v,
-        writable: false,
-    };
     if code == 1 {
         if p.writable {
-            let next = write_register(i, n);
-            return Setup {
-                id: next,
-                prom: off,
-            };
+            return leaving(v, false, write_register(i, n));
         }
-        return Setup { id: i, prom: off };
+        return leaving(v, false, i);
     }
     if code == 3 {
         if p.writable {
-            let next = erase_register(i, n);
-            return Setup {
-                id: next,
-                prom: off,
-            };
+            return leaving(v, false, erase_register(i, n));
         }
-        return Setup { id: i, prom: off };
+        return leaving(v, false, i);
     }
     whole_command(v, i, p)
 }

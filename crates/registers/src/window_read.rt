@@ -89,7 +89,7 @@ fn read_2(c: Card, o: u16) -> u16
 fn byte_wide(w: u16) -> u16
     ensures { λ r. ⌜ r ≡ w - weigh 8 (has 8 w) ⌝ }
 {
-    if w / 8 % 2 == 1 {
+    if bits::has(w, 8) {
         return w - 8;
     }
     w

@@ -51,10 +51,10 @@ fn control(c: Card, l: Lanes, v: u16) -> Card
         return c;
     }
     let low = v % 256;
-    if low / 4 % 2 == 1 {
+    if bits::has(low, 4) {
         return regs::reset(c);
     }
-    let enabled = low / 1 % 2 == 1;
+    let enabled = bits::has(low, 1);
     let mut next = c;
     next.config.enabled = enabled;
     next

@@ -1,13 +1,14 @@
 // The card by value: its registers in groups, the Status word, settle, power-on, and the test of its soundness.
 ghost use mathlib.Core.Path.{_≡_};
 ghost use mathlib.Core.Bool.{true};
-ghost use Prim.Native.Nat.{_%_, _≤_};
+ghost use Prim.Native.Nat.{_%_, _≤_, _<_};
 ghost use lib.ListN.{length};
+ghost use Rattle.bits.specs.Bits.{weigh};
 ghost use Rattle.card_rules.specs.Room.{txSize, rxSize};
 ghost use Rattle.receive_rules.specs.View as rx;
-ghost use Rattle.card_rules.specs.Status.{statusOf, statusWord, flags as flagsOf, interrupting};
+ghost use Rattle.card_rules.specs.Status.{shows, statusOf, statusWord, flags as flagsOf, rises as risesOf, interrupting};
 ghost use Rattle.card_rules.specs.Settle.{settle as settleOf};
-ghost use Rattle.card_rules.specs.Power.{powerOn, reset as resetOf};
+ghost use Rattle.card_rules.specs.Power.{quietRx, powerOn, reset as resetOf};
 ghost use Rattle.card_rules.specs.Sound.{selectSound, kept};
 ghost use Rattle.card_rules.specs.View.{rxSizeOf, view, Held, Sound, Blank, Does, SettlesSides, Stands, soundCard};
 use card_rules::Card;
@@ -16,12 +17,17 @@ use card_rules::Flags;
 use card_rules::Lines;
 use card_rules::Prom;
 use card_rules::Select;
-use port_rules::IdState;
 use receive_rules::Receive;
 use receive_rules::Receiver;
 use transmit::outcomes;
 use transmit_rules::Fifo;
 use transmit_rules::Transmit;
+
+// The weight of the window in Status: it stands in bits 15 to 13.
+const WINDOW: u16 = 8192;
+
+// A TX Available threshold above this one never sets the bit.
+const HIGHEST: u16 = 1792;
 
 // The transmitter's part of the RAM, by the second Internal Configuration word.
 pub fn tx_size(second: u16) -> usize
@@ -51,34 +57,46 @@ pub fn rx_size(second: u16) -> usize
     5120
 }
 
+// The weight of a flag, unless a 0 in the Read Zero mask hides it.
+fn shown(zero: u16, weight: u16, flag: bool) -> u16
+    requires { ⌜ 0 < weight ⌝ }
+    ensures { λ r. ⌜ (r ≡ weigh weight (shows weight zero flag)) × (r ≤ weight) ⌝ }
+{
+    bits::weight_if(weight, bits::has(zero, weight) & flag)
+}
+
 // The Status word.
 pub fn status_of(s: Select, f: Flags) -> u16
     requires { ⌜ selectSound s ≡ true ⌝ }
     ensures { λ r. ⌜ r ≡ statusOf s f ⌝ }
 {
     let zero = s.zero;
-    s.window * 8192
+    s.window * WINDOW
         + (bits::weight_if(1, f.latch)
-            + bits::weight_if(2, (zero / 2 % 2 == 1) & f.failed)
-            + bits::weight_if(4, (zero / 4 % 2 == 1) & f.completed)
-            + bits::weight_if(8, (zero / 8 % 2 == 1) & f.available)
-            + bits::weight_if(16, (zero / 16 % 2 == 1) & f.received)
-            + bits::weight_if(32, (zero / 32 % 2 == 1) & f.early)
-            + bits::weight_if(64, (zero / 64 % 2 == 1) & f.requested))
+            + shown(zero, 2, f.failed)
+            + shown(zero, 4, f.completed)
+            + shown(zero, 8, f.available)
+            + shown(zero, 16, f.received)
+            + shown(zero, 32, f.early)
+            + shown(zero, 64, f.requested))
+}
+
+// Whether a flag is in the interrupt mask and visible.
+fn rises(s: Select, weight: u16, flag: bool) -> bool
+    requires { ⌜ 0 < weight ⌝ }
+    ensures { λ r. ⌜ r ≡ risesOf s weight flag ⌝ }
+{
+    bits::has(s.mask, weight) & (bits::has(s.zero, weight) & flag)
 }
 
 // Whether a flag of bits 1 to 7 is visible and in the interrupt mask.
 pub fn interrupts(s: Select, f: Flags) -> bool
     ensures { λ r. ⌜ r ≡ interrupting s f ⌝ }
 {
-    let m = s.mask;
-    let zero = s.zero;
-    (m / 2 % 2 == 1) & ((zero / 2 % 2 == 1) & f.failed)
-        | ((m / 4 % 2 == 1) & ((zero / 4 % 2 == 1) & f.completed)
-            | ((m / 8 % 2 == 1) & ((zero / 8 % 2 == 1) & f.available)
-                | ((m / 16 % 2 == 1) & ((zero / 16 % 2 == 1) & f.received)
-                    | ((m / 32 % 2 == 1) & ((zero / 32 % 2 == 1) & f.early)
-                        | (m / 64 % 2 == 1) & ((zero / 64 % 2 == 1) & f.requested)))))
+    rises(s, 2, f.failed)
+        | (rises(s, 4, f.completed)
+            | (rises(s, 8, f.available)
+                | (rises(s, 16, f.received) | (rises(s, 32, f.early) | rises(s, 64, f.requested)))))
 }
 
 // The masks, the window and the filter are in their ranges.
@@ -91,25 +109,46 @@ fn select_sound(s: Select) -> bool
             & ((s.zero <= 254) & (s.zero % 2 == 0) & (s.filter <= 15)))
 }
 
+// The configuration registers at power-on: words 03h, 09h, 12h and 13h are loaded.
+fn loaded(words: [u16; 64]) -> Config
+    ensures { λ r. ⌜ r ≡ powerOn words 0 .config ⌝ }
+{
+    Config {
+        product: words[0x03],
+        resource: words[0x09],
+        enabled: false,
+        first: words[0x12],
+        second: words[0x13],
+        station: [0; 6],
+    }
+}
+
+// The receive side at power-on and after RX Reset: off and empty. `wire` is what the wire is doing.
+pub fn quiet(wire: u8) -> Receive
+    ensures { λ r. ⌜ r ≡ record { receiver = quietRx wire .receiver; frames = 0 } ⌝ }
+{
+    Receive {
+        receiver: Receiver {
+            on: false,
+            failed: false,
+            early: false,
+            told: false,
+            threshold: receive::EARLY_DEFAULT,
+            read: 0,
+            wire: wire,
+        },
+        frames: 0,
+    }
+}
+
 // Power-on with these EEPROM words; `wire` is what the wire is doing.
 pub fn power_on(words: [u16; 64], wire: u8) -> Card
     ensures { λ r. ⌜ Blank r (powerOn words wire) ⌝ }
 {
     let id = idport::fresh(words);
     let outcomes = outcomes::fresh();
-    let receiver = Receiver {
-        on: false,
-        failed: false,
-        early: false,
-        told: false,
-        threshold: 2044,
-        read: 0,
-        wire: wire,
-    };
-    let product = words[0x03];
-    let resource = words[0x09];
-    let first = words[0x12];
-    let second = words[0x13];
+    let config = loaded(words);
+    let receive = quiet(wire);
     Card {
         id: id,
         select: Select {
@@ -123,22 +162,12 @@ pub fn power_on(words: [u16; 64], wire: u8) -> Card
             requested: false,
             low: 0,
         },
-        config: Config {
-            product: product,
-            resource: resource,
-            enabled: false,
-            first: first,
-            second: second,
-            station: [0; 6],
-        },
+        config: config,
         prom: Prom {
             last: 0,
             writable: false,
         },
-        receive: Receive {
-            receiver: receiver,
-            frames: 0,
-        },
+        receive: receive,
         transmit: Transmit {
             fifo: Fifo {
                 failed: false,
@@ -211,7 +240,7 @@ fn is_quiet(ram: &[u8], dir: &[u16], c: Card) -> bool
     let size = rx_size(c.config.second);
     let early = receive::early_settled(ram, dir, size, c.receive.frames, c.receive.receiver);
     let s = c.transmit.outcomes.sender;
-    let known = (1792 < s.level) | s.available;
+    let known = (HIGHEST < s.level) | s.available;
     early & (known & (c.lines.latch | (c.select.mask == 0)))
 }
 

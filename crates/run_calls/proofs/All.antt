@@ -1,6 +1,6 @@
 -- Each call takes its event's step, and so do any calls one after the other. Assumes nothing.
-use mathlib.Core.Path.{_≡_, refl, ap, _∙_}
-use mathlib.Core.List.{List, [], _∷_, _++_}
+use mathlib.Core.Path.{refl, ap, _∙_}
+use mathlib.Core.List.{List, _++_}
 use Rattle.driver_rules.specs.Driver.{neverOpened}
 use Rattle.driver_rules.specs.Calls.{soundState}
 use Rattle.runs.specs.Run.{Event, after, sayings, Earlier, since, before, Said}

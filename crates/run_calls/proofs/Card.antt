@@ -1,5 +1,5 @@
 -- On a good state a contract of the card goes by the call's own test, and so does the run's event. Assumes nothing.
-use mathlib.Core.Path.{_≡_, refl, sym, ap, _∙_}
+use mathlib.Core.Path.{_≡_, refl, ap, _∙_}
 use mathlib.Core.Bool.{Bool, true, false, cond, not, _&&_}
 use mathlib.Core.List.{List, [], _∷_}
 use Prim.Native.Nat.{ℕ, suc, _<_}
@@ -26,7 +26,7 @@ use Rattle.card_rules.specs.Calls as card
 use Rattle.card_rules.specs.Calls.{Reply, done, value, judged, replying, Does, Call, Area, readReply, doneReply, toldReply, isWord, isByte, onWire, offWire}
 use Rattle.card_rules.specs.Contracts as contract
 use Rattle.runs.specs.Run as run
-use Rattle.runs.specs.Run.{Bench, Earlier, Host, IdWrite, IdRead, Said, next, said, before, permitted}
+use Rattle.runs.specs.Run.{Host, IdWrite, IdRead, next, said, before, permitted}
 use Rattle.run_calls.specs.Takes.{State, seen, Good, left, saysDone, saysTold}
 use Rattle.run_calls.proofs.Good.{Fine, fine, kept-fine, good-of, fine-of, driver-of, sound-of, Stepping, Before}
 

@@ -1,10 +1,11 @@
 -- On a sound card and driver a call's contract speaks of the run that the event stands for. A refused call leaves the card, and so does its run: reads of Status and TX Free change nothing of what is settled. Assumes nothing.
 use mathlib.Core.Path.{_≡_, refl, sym, ap, subst⁻¹, _∙_}
-use mathlib.Core.Bool.{Bool, true, false, cond, not, _&&_}
+use mathlib.Core.Bool.{Bool, true, false, not, _&&_}
 use mathlib.Core.List.{List, [], _∷_}
 use Prim.Native.Nat.{ℕ, _+_}
 use lib.Dec.{ltb}
 use lib.ListN.{length}
+use borrow.Author.Tests.{not-false}
 use Rattle.bits.proofs.Tests.{by-test, of-cond, of-test, never, join}
 use Rattle.store.specs.Store.{round4}
 use Rattle.card_rules.specs.declared.Card.{Card}
@@ -14,7 +15,7 @@ use Rattle.card_rules.specs.Settle.{settle}
 use Rattle.card_rules.specs.View.{view}
 use Rattle.card_rules.proofs.Sides.{settle-stays}
 use Rattle.card_rules.specs.Read.{afterWord}
-use Rattle.card_rules.specs.Access.{Access, ReadWord, Step, effect, access}
+use Rattle.card_rules.specs.Access.{ReadWord, Step, effect, access}
 use Rattle.card_rules.proofs.StepEnds.{asleep, awake}
 use Rattle.driver_rules.specs.declared.Driver.{Driver}
 use Rattle.driver_rules.specs.Registers.{unfit}
@@ -24,10 +25,9 @@ use Rattle.driver_rules.proofs.Runs.{writes-law}
 use Rattle.driver_rules.specs.Areas.{inLook, inFrame}
 use Rattle.driver_rules.specs.Items.{Serving}
 use Rattle.driver_rules.specs.declared.Serviced.{Serviced}
-use Rattle.driver_rules.specs.Service.{lookTalk}
 use Rattle.driver_rules.specs.declared.Opened.{Opened}
 use Rattle.driver_rules.specs.Open as opens
-use Rattle.driver_rules.specs.Open.{Opening, openTalk}
+use Rattle.driver_rules.specs.Open.{openTalk}
 use Rattle.driver_rules.specs.Opens as inner-open
 use Rattle.driver_rules.specs.declared.Sent.{Sent}
 use Rattle.driver_rules.specs.Send as sends
@@ -35,7 +35,7 @@ use Rattle.driver_rules.specs.Packet.{outside, packetWords}
 use Rattle.driver_rules.specs.Send.{Sending, ticketed, sendTalk}
 use Rattle.driver_rules.specs.Sends as inner-send
 use Rattle.driver_rules.specs.Paper.{openPaper, sendPaper, servicePaper}
-use Rattle.driver_rules.specs.Calls.{large, openCall, sendCall, serviceCall, ServiceCall}
+use Rattle.driver_rules.specs.Calls.{openCall, sendCall, serviceCall, ServiceCall}
 use Rattle.driver_rules.specs.HandUp.{handed}
 use Rattle.driver_rules.proofs.HandUp.{handed-as}
 use Rattle.driver_rules.proofs.Keeps.{send-keeps, service-keeps}
@@ -83,10 +83,6 @@ module _ (d : Driver) (packet : List ℕ) (a : Adapter) (s : sound a ≡ true) w
       (writes (packetWords packet))))))))
 
 -- ---- a service that is not begun, and what any service hands up
-
-not-false : (b : Bool) → not b ≡ false → b ≡ true
-not-false true e = refl
-not-false false e = sym e
 
 unbegun : (l : Bool) (d : Driver) (budget : ℕ) (a : Adapter) → (d .opened && l) ≡ false → (run (serviceCall true l d budget) a) .adapter ≡ a
 unfolding serviceCall run

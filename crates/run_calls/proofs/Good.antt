@@ -1,12 +1,12 @@
 -- A state is good by its card and by its driver. Assumes nothing.
 use mathlib.Core.Path.{_≡_, ap, _∙_}
 use mathlib.Core.Bool.{true}
-use mathlib.Core.List.{List, []}
+use mathlib.Core.List.{List}
 use Prim.Native.Nat.{ℕ}
 use lib.ListN.{length}
 use Rattle.bits.proofs.Tests.{both, join}
 use Rattle.card_rules.specs.declared.Card.{Card}
-use Rattle.card_rules.specs.View.{view, Sound, soundCard}
+use Rattle.card_rules.specs.View.{Sound, soundCard}
 use Rattle.card_rules.proofs.Checked.{card-told, card-shown}
 use Rattle.driver_rules.specs.declared.Driver.{Driver}
 use Rattle.driver_rules.specs.Driver.{driverSound}

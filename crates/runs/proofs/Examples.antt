@@ -14,7 +14,6 @@ use Rattle.receive_rules.specs.Sound.{inOrder, earlySettled}
 use Rattle.transmit_rules.specs.Queue as queue
 use Rattle.transmit_rules.specs.QueueSound.{allSized}
 use Rattle.transmit_rules.specs.Outcome.{some, due}
-use Rattle.transmit_rules.specs.Tx as tx
 use Rattle.card_rules.specs.Update.{withRx}
 use Rattle.card_rules.specs.Room.{rxSize, txSize}
 use Rattle.card_rules.specs.Status.{interrupting}

@@ -1,9 +1,8 @@
 -- Every access and event keeps the soundness of the adapter, every call that of the driver too; so every run does. Assumes nothing.
-use mathlib.Core.Path.{_≡_, refl, subst}
+use mathlib.Core.Path.{_≡_, refl}
 use mathlib.Core.Bool.{Bool, true, not, _&&_}
 use mathlib.Core.List.{List, [], _∷_}
 use Prim.Native.Nat.{ℕ}
-use native.Mathlib.Omega.{arith}
 use borrow.Author.Tests.{eqb-true}
 use lib.Dec.{ltb, eqb}
 use Rattle.bits.proofs.Tests.{both, join, of-cond, of-test}
@@ -13,14 +12,11 @@ use Rattle.port_rules.specs.Sound.{idSound}
 use Rattle.port_rules.proofs.Keep.{every-step-keeps-soundness}
 use Rattle.transmit_rules.specs.Tx.{ready}
 use Rattle.card_rules.specs.Adapter.{Adapter}
-use Rattle.card_rules.specs.Power.{powerOn}
-use Rattle.receive_rules.specs.Early.{earlyFlag, toldFlag}
-use Rattle.transmit_rules.specs.Outcome.{due}
-use Rattle.card_rules.specs.Status.{interrupting}
 use Rattle.card_rules.specs.Settle.{settle}
 use Rattle.card_rules.specs.Sound.{sound}
-use Rattle.card_rules.proofs.Sides.{kept-of, registers-of, settle-sound}
-use Rattle.card_rules.proofs.CommandKeeps.{Keeping, power-on-kept}
+use Rattle.card_rules.proofs.Sides.{identified, kept-of, settle-sound}
+use Rattle.card_rules.proofs.CommandKeeps.{Keeping}
+use Rattle.card_rules.proofs.Power.{power-on-sound}
 use Rattle.card_rules.specs.Read.{afterWord}
 use Rattle.card_rules.specs.Access.{Access, ReadWord, ReadByte, WriteWord, WriteByte, Step, effect, access}
 use Rattle.card_rules.specs.Event as card
@@ -118,9 +114,6 @@ after-sound (e ∷ es) b s = after-sound es (next e b) (next-sound e b s)
 
 -- ---- histories
 
-identified : (a : Adapter) → sound a ≡ true → idSound (a .id) ≡ true
-identified a s = both (idSound (a .id)) _ (registers-of a s) .0
-
 seat-sound : (i : IdState) (b : Bench) → soundBench b ≡ true → idSound i ≡ true → soundBench (withAdapter (card.seat i (b .adapter)) b) ≡ true
 unfolding card.seat
 seat-sound i b s g = bench-by (withAdapter (card.seat i (b .adapter)) b) (settled _ (keeps.seat-keeps (b .adapter) (adapter-of b s) i g)) (driver-of b s)
@@ -141,18 +134,10 @@ since-sound (h ∷ hs) b s = since-sound hs (before h b) (before-sound h b s)
 
 -- ---- power-on
 
--- settle leaves a card at power-on as it is
-power-settled : (words : List ℕ) → settle (powerOn words 0) ≡ powerOn words 0
-unfolding settle powerOn interrupting earlyFlag toldFlag due
-power-settled words = refl
-
-pub power-sound : (words : List ℕ) → sound (powerOn words 0) ≡ true
-power-sound words = subst (λ (x : Adapter). sound x ≡ true) (power-settled words) (settle-sound (powerOn words 0) (power-on-kept words 0 (omega arith)))
-
 pub soundness-is-kept : Every-step-keeps-soundness
 soundness-is-kept =
     record {
-      at-power-on = λ words. bench-by (fresh words) (power-sound words) refl;
+      at-power-on = λ words. bench-by (fresh words) (power-on-sound words) refl;
       unopened = λ b s. bench-by (record { adapter = b .adapter; driver = neverOpened }) (adapter-of b s) refl;
       through-any-steps = since-sound;
     }

@@ -1,4 +1,4 @@
-// A line of a bench script: what it asks for. The definition of the language is `script/specs/Script.antt`.
+// A line of a bench script: what it asks for. The definition of the language is `bench_rules/specs/Script.antt`.
 ghost use lib.ListN.{length};
 ghost use Rattle.bench_rules.specs.Script.{Means};
 use bench_rules::Kind;

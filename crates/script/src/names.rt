@@ -3,12 +3,6 @@ ghost use mathlib.Core.Path.{_≡_};
 ghost use Rattle.bench_rules.specs.Script.{keyOf, kindOf};
 use bench_rules::Kind;
 
-fn wide(b: u8) -> u64
-    ensures { λ r. ⌜ r ≡ b ⌝ }
-{
-    b as u64
-}
-
 // The number of a word; 0 for one that is too long or begins with a zero.
 pub fn key(word: &[u8]) -> u64
     ensures { λ r. ⌜ r ≡ keyOf (now (word .entry)) ⌝ }
@@ -25,7 +19,7 @@ pub fn key(word: &[u8]) -> u64
         if n >= 0x100000000000000 {
             return 0;
         }
-        n = n * 256 + wide(word[i]);
+        n = n * 256 + bits::wide(word[i]) as u64;
         i += 1;
     }
     n
@@ -36,42 +30,24 @@ pub fn kind(key: u64) -> Kind
     ensures { λ r. ⌜ r ≡ kindOf key ⌝ }
 {
     match key {
-        // power
-        0x706F776572 => Kind::Power,
-        // join
-        0x6A6F696E => Kind::Join,
-        // rw
-        0x7277 => Kind::ReadWord,
-        // rb
-        0x7262 => Kind::ReadByte,
-        // ww
-        0x7777 => Kind::WriteWord,
-        // wb
-        0x7762 => Kind::WriteByte,
-        // start
-        0x7374617274 => Kind::Start,
-        // bytes
-        0x6279746573 => Kind::Bytes,
-        // end
-        0x656E64 => Kind::End,
-        // sent
-        0x73656E74 => Kind::Sent,
-        // collided
-        0x636F6C6C69646564 => Kind::Collided,
-        // idw
-        0x696477 => Kind::IdWrite,
-        // idr
-        0x696472 => Kind::IdRead,
-        // search
-        0x736561726368 => Kind::Search,
-        // activate
-        0x6163746976617465 => Kind::Activate,
-        // open
-        0x6F70656E => Kind::Open,
-        // send
-        0x73656E64 => Kind::Send,
-        // service
-        0x73657276696365 => Kind::Service,
+        0x706F776572 => Kind::Power, // power
+        0x6A6F696E => Kind::Join, // join
+        0x7277 => Kind::ReadWord, // rw
+        0x7262 => Kind::ReadByte, // rb
+        0x7777 => Kind::WriteWord, // ww
+        0x7762 => Kind::WriteByte, // wb
+        0x7374617274 => Kind::Start, // start
+        0x6279746573 => Kind::Bytes, // bytes
+        0x656E64 => Kind::End, // end
+        0x73656E74 => Kind::Sent, // sent
+        0x636F6C6C69646564 => Kind::Collided, // collided
+        0x696477 => Kind::IdWrite, // idw
+        0x696472 => Kind::IdRead, // idr
+        0x736561726368 => Kind::Search, // search
+        0x6163746976617465 => Kind::Activate, // activate
+        0x6F70656E => Kind::Open, // open
+        0x73656E64 => Kind::Send, // send
+        0x73657276696365 => Kind::Service, // service
         _ => Kind::Unknown,
     }
 }

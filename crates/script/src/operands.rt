@@ -161,10 +161,10 @@ fn three_numbers(
 fn flag(b: u8) -> u16
     ensures { λ r. ⌜ r ≡ flagOf b ⌝ }
 {
-    if b == 0x30 {
+    if b == b'0' {
         return 0;
     }
-    if b == 0x31 {
+    if b == b'1' {
         return 1;
     }
     2
@@ -251,7 +251,21 @@ pub fn line(kind: Kind, count: u8, one: &[u8], two: &[u8], three: &[u8], bytes: 
         Kind::Start => byte_string(kind, 8, count, one, bytes),
         Kind::Bytes => byte_string(kind, 0, count, one, bytes),
         Kind::Send => byte_string(kind, 0, count, one, bytes),
-        _ => numbers(kind, count, one, two, three),
+        Kind::Nothing
+        | Kind::Unknown
+        | Kind::ReadWord
+        | Kind::ReadByte
+        | Kind::WriteWord
+        | Kind::WriteByte
+        | Kind::End
+        | Kind::Sent
+        | Kind::Collided
+        | Kind::IdWrite
+        | Kind::IdRead
+        | Kind::Search
+        | Kind::Activate
+        | Kind::Open
+        | Kind::Service => numbers(kind, count, one, two, three),
     }
 }
 
@@ -273,6 +287,12 @@ fn numbers(kind: Kind, count: u8, one: &[u8], two: &[u8], three: &[u8]) -> Line
         Kind::Activate => three_numbers(kind, 10, 65535, count, one, two, three),
         Kind::Open => three_numbers(kind, 16, 65535, count, one, two, three),
         Kind::Service => one_number(kind, 10, count, one),
-        _ => unknown(),
+        Kind::Nothing
+        | Kind::Unknown
+        | Kind::Power
+        | Kind::Join
+        | Kind::Start
+        | Kind::Bytes
+        | Kind::Send => unknown(),
     }
 }

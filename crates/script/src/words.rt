@@ -14,13 +14,13 @@ const HASH: u8 = 2;
 fn is(class: u8, b: u8) -> bool
     ensures { λ r. ⌜ r ≡ isOf class b ⌝ }
 {
-    if class == 0 {
-        return (b == 0x20) | (b == 0x09);
+    if class == BLANK {
+        return (b == b' ') | (b == b'\t');
     }
-    if class == 1 {
-        return !((b == 0x20) | (b == 0x09));
+    if class == LETTER {
+        return !((b == b' ') | (b == b'\t'));
     }
-    b == 0x23
+    b == b'#'
 }
 
 // How far it is to the first character of a class; to the end if there is none.

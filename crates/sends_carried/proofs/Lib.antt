@@ -5,3 +5,4 @@ pub mod Quiet
 pub mod Rooms
 pub mod Stored
 pub mod Words
+pub mod Host

@@ -1,19 +1,19 @@
 -- No access of an open or a service changes the transmit FIFO; nor do the wire's events. Assumes nothing.
-use mathlib.Core.Path.{_≡_, refl, ap, subst⁻¹, _∙_}
-use mathlib.Core.Bool.{Bool, true, false, not, _&&_, _||_}
+use mathlib.Core.Path.{_≡_, refl, ap, _∙_}
+use mathlib.Core.Bool.{Bool, true, not, _&&_, _||_}
 use mathlib.Core.List.{List, [], _∷_}
 use Prim.Native.Nat.{ℕ, zero, suc, _+_, _/_, _%_}
 use lib.Dec.{ltb, eqb}
 use Rattle.bits.proofs.Tests.{of-cond, by-test}
 use Rattle.card_rules.specs.Adapter.{Adapter}
-use Rattle.card_rules.specs.Update.{withId}
 use Rattle.card_rules.specs.Settle.{settle}
 use Rattle.card_rules.specs.Command.{acknowledge, act, command, commanded}
 use Rattle.card_rules.specs.Read.{afterWord}
 use Rattle.card_rules.specs.Write.{coversLow, coversHigh, write, write0, write1, write2, write3, writeWord, writeByte}
 use Rattle.card_rules.specs.Access.{Access, ReadWord, ReadByte, WriteWord, WriteByte, Step, effect, access}
-use Rattle.card_rules.proofs.StepEnds.{asleep}
+use Rattle.card_rules.proofs.Active.{woken}
 use Rattle.driver_rules.specs.declared.Driver.{Driver}
+use Rattle.driver_rules.proofs.Runs.{asleep-run}
 use Rattle.driver_rules.specs.Registers.{unfit, txComplete, rxComplete, bad}
 use Rattle.driver_rules.specs.Talk.{Talk, done, ask, run, readWords}
 use Rattle.driver_rules.specs.Open.{openTalk}
@@ -124,28 +124,7 @@ service-quiet areas d budget =
 
 -- ---- open: an inactive card ignores it, and an active one is in window 2 when the address is written
 
-asleep-run : {A : Type 0} (t : Talk A) (a : Adapter) → a .id .active ≡ false → (run t a) .adapter ≡ a
-unfolding run
-asleep-run (done x) a e = refl
-asleep-run (ask x next) a e =
-    subst⁻¹ (λ (s : Step). (run (next (s .value)) (s .adapter)) .adapter ≡ a) (asleep x a e) (asleep-run (next _) a e)
-
-abbrev awaken : Bool → Adapter → Adapter
-awaken v a =
-    withId
-    (record {
-      command = a .id .command;
-      port = a .id .port;
-      at = a .id .at;
-      tag = a .id .tag;
-      shift = a .id .shift;
-      address = a .id .address;
-      active = v;
-      due = a .id .due;
-      words = a .id .words;
-    }) a
-
-open-awake : (d : Driver) (w₀ w₁ w₂ : ℕ) (a : Adapter) → Same a ((run (openTalk d w₀ w₁ w₂) (awaken true a)) .adapter)
+open-awake : (d : Driver) (w₀ w₁ w₂ : ℕ) (a : Adapter) → Same a ((run (openTalk d w₀ w₁ w₂) (woken true a)) .adapter)
 unfolding run openTalk access effect settle writeWord writeByte write write2 coversLow coversHigh commanded command act
 open-awake d w₀ w₁ w₂ a = refl
 
@@ -153,5 +132,5 @@ pub open-quiet : (d : Driver) (w₀ w₁ w₂ : ℕ) → Quiet (openCall true d 
 unfolding openCall
 open-quiet d w₀ w₁ w₂ a =
     by-test (a .id .active)
-    (λ y. ap (λ (v : Bool). (run (openTalk d w₀ w₁ w₂) (awaken v a)) .adapter .tx .queue) y ∙ open-awake d w₀ w₁ w₂ a)
+    (λ y. ap (λ (v : Bool). (run (openTalk d w₀ w₁ w₂) (woken v a)) .adapter .tx .queue) y ∙ open-awake d w₀ w₁ w₂ a)
     (λ n. ap (λ (b : Adapter). b .tx .queue) (asleep-run (openTalk d w₀ w₁ w₂) a n))

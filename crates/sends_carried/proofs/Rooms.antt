@@ -10,7 +10,6 @@ use lib.ListN.{length, getD}
 use Rattle.refusal.specs.declared.Refusal.the-variants.{NoRoom}
 use Rattle.store.specs.Store.{round4}
 use Rattle.transmit_rules.specs.Queue as queue
-use Rattle.card_rules.specs.Room as room
 use Rattle.card_rules.specs.Room.{txSize}
 use Rattle.card_rules.specs.Settle.{settle}
 use Rattle.card_rules.specs.Power.{powerOn}

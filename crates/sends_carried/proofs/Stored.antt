@@ -4,7 +4,7 @@ use mathlib.Core.Bool.{Bool, true, false, cond, not, _&&_, _||_}
 use mathlib.Core.List.{List, [], _∷_, _++_}
 use Prim.Native.Nat.{ℕ, _+_, _-_, _%_, _≤_}
 use native.Mathlib.Omega.{arith}
-use borrow.Author.Tests.{ltb-true, ltb-false, lt-ltb, le-ltb, eqb-true}
+use borrow.Author.Tests.{ltb-true, ltb-false, lt-ltb, le-ltb, eqb-true, not-false}
 use lib.Dec.{ltb, eqb}
 use lib.ListN.{length}
 use Rattle.refusal.specs.declared.Refusal.{Refusal}
@@ -39,7 +39,6 @@ use Rattle.driver_rules.specs.Send.{Sending, refuses, ticketed, sendTalk, refus
 use Rattle.driver_rules.proofs.SendWays.{not-long}
 use Rattle.driver_rules.specs.Calls.{sendCall}
 use Rattle.driver_rules.proofs.Status.{unfit-status}
-use Rattle.driver_rules.proofs.Unfit.{not-false-true}
 use Rattle.runs.specs.Run.{Bench, sends, next}
 use Rattle.sends_carried.specs.Packets.{areBytes, stored, Clear, fit, answerTo}
 use Rattle.sends_carried.specs.Carried.{A-send-answers-by-the-table, A-packet-is-stored-whole}
@@ -65,12 +64,12 @@ record Alike (a b : Adapter) : Type 0 where
   failed : b .rx .receiver .failed ≡ a .rx .receiver .failed
 
 -- b is a with the words vs written to the FIFO, but for what settle sets
-record Wrote (vs : List ℕ) (a b : Adapter) : Type 0 where
-  queue : b .tx .queue ≡ puts (txRoom a) vs (a .tx .queue)
-  config : b .config ≡ a .config
-  id : b .id ≡ a .id
-  select : b .select ≡ a .select
-  failed : b .rx .receiver .failed ≡ a .rx .receiver .failed
+pub record Wrote (vs : List ℕ) (a b : Adapter) : Type 0 where
+  pub queue : b .tx .queue ≡ puts (txRoom a) vs (a .tx .queue)
+  pub config : b .config ≡ a .config
+  pub id : b .id ≡ a .id
+  pub select : b .select ≡ a .select
+  pub failed : b .rx .receiver .failed ≡ a .rx .receiver .failed
 
 alike-wrote : (vs : List ℕ) (a b c : Adapter) → Alike a b → Wrote vs b c → Wrote vs a c
 alike-wrote vs a b c l r =
@@ -82,7 +81,7 @@ alike-wrote vs a b c l r =
       failed = r .failed ∙ l .failed;
     }
 
-writes : (vs : List ℕ) (a : Adapter) → a .id .active ≡ true → a .select .window ≡ 1 → Wrote vs a (afterWrites vs a)
+pub writes : (vs : List ℕ) (a : Adapter) → a .id .active ≡ true → a .select .window ≡ 1 → Wrote vs a (afterWrites vs a)
 unfolding after puts settle
 writes [] a y w = record { queue = refl; config = refl; id = refl; select = refl; failed = refl }
 writes (v ∷ vs) a y w =
@@ -204,7 +203,7 @@ module _ (a : Adapter) (d : Driver) (p : List ℕ) where
       guards (unfit ((access (ReadWord 14) a) .value)) (not (fit a)) CardUnfit x (readWord registers.txFree onFree) b (shows-fit a)
       (record { same = access-same (ReadWord 14) a (word-read 14 a); whole = status-kept a })
       (λ f.
-      let g = both (a .id .active) (eqb (a .select .window) 1 && not (has 2 (a .select .zero) && failure a)) (not-false-true (fit a) f) in
+      let g = both (a .id .active) (eqb (a .select .window) 1 && not (has 2 (a .select .zero) && failure a)) (not-false (fit a) f) in
       let w : a .select .window ≡ 1 = eqb-true (a .select .window) 1 (both (eqb (a .select .window) 1) (not (has 2 (a .select .zero) && failure a)) (g .1) .0) in
       subst⁻¹ (λ (c : Adapter). Ends x (run (readWord registers.txFree onFree) c)) (status-read a (g .0))
       (ends-free (settle a) (g .0) w (record { queue = refl; config = refl; id = refl; select = refl; failed = refl }) (settle-stays a)))

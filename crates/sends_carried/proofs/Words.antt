@@ -42,7 +42,7 @@ words-bytes (suc m) (x ∷ y ∷ p) h e =
     λ j. low j ∷ high j ∷ words-bytes m p (omega arith) (g .1) j
 
 -- a queue in which nothing is half written is as good as one with no part
-puts-clear : (size w : ℕ) (vs : List ℕ) (q : Queue) → q .failed ≡ false → q .part .words ≡ 0 → 2 ≤ free size q → sized (lenOf w) ≡ true
+pub puts-clear : (size w : ℕ) (vs : List ℕ) (q : Queue) → q .failed ≡ false → q .part .words ≡ 0 → 2 ≤ free size q → sized (lenOf w) ≡ true
     → puts size (w ∷ vs) q ≡ puts size (w ∷ vs) (record { failed = false; packets = q .packets; part = noPart })
 unfolding puts free
 puts-clear size w vs q f e r s =

@@ -2,3 +2,4 @@
 pub mod Carried
 pub mod Packets
 pub mod Rooms
+pub mod Host

@@ -15,9 +15,6 @@ pub mod serving; // serving.rt: a whole service: look and receive, begun again w
 
 pub use serving::serve;
 
-// Interrupt Latch, TX Available, RX Early and Interrupt Requested.
-const ACKNOWLEDGED: u16 = 0x69;
-
 // Status is read, and the first item that stands is done: TX Complete, else RX Complete, else idle.
 pub fn look(
     ram: &mut [u8],
@@ -33,25 +30,13 @@ pub fn look(
     ensures { λ r. ⌜ Meets (r .paused) left (run (lookTalk left d) (view c (now (ram .entry)) (now (dir .entry)))) r (view (r .card) (now (ram .exit)) (now (dir .exit))) (now (ahead .entry)) (now (frame .entry)) (now (ahead .exit)) (now (frame .exit)) × (Sound (r .card) (now (ram .exit)) (now (dir .exit)) × Unmoved (run (lookTalk left d) (view c (now (ram .entry)) (now (dir .entry)))) c (r .card) (now (ram .entry)) (now (dir .entry)) (now (ram .exit)) (now (dir .exit))) ⌝ }
 {
     if left == 0 {
-        return Served {
-            driver: d,
-            card: c,
-            answer: Answer::Refused(Refusal::BudgetShort),
-            left: 0,
-            paused: false,
-        };
+        return items::short(c, d, 0);
     }
     let got = steps::read_word(ram, dir, c, driver_rules::STATUS);
     let same = got.card;
     let status = got.value;
     if items::is_unfit(status) {
-        return Served {
-            driver: d,
-            card: c,
-            answer: Answer::Refused(Refusal::CardUnfit),
-            left: left - 1,
-            paused: false,
-        };
+        return items::ended(c, d, Answer::Refused(Refusal::CardUnfit), left - 1);
     }
     if items::is_tx_complete(status) {
         return items::report(ram, dir, same, d, left - 1);
@@ -59,29 +44,7 @@ pub fn look(
     if items::is_rx_complete(status) {
         return receive(ram, dir, same, d, ahead, frame, left - 1, turns);
     }
-    if left == 1 {
-        return Served {
-            driver: d,
-            card: same,
-            answer: Answer::Refused(Refusal::BudgetShort),
-            left: 0,
-            paused: false,
-        };
-    }
-    let end = steps::write_word(
-        ram,
-        dir,
-        same,
-        driver_rules::STATUS,
-        driver_rules::ACKNOWLEDGE + ACKNOWLEDGED,
-    );
-    Served {
-        driver: d,
-        card: end,
-        answer: Answer::Idle,
-        left: left - 2,
-        paused: false,
-    }
+    items::idle(ram, dir, same, d, left - 1)
 }
 
 // The oldest frame is complete: a good one is fetched, any other discarded, and the pass looks again from the start.
@@ -99,34 +62,16 @@ fn receive(
     ensures { λ r. ⌜ Meets (r .paused) left (run (receiveTalk left d) (view c (now (ram .entry)) (now (dir .entry)))) r (view (r .card) (now (ram .exit)) (now (dir .exit))) (now (ahead .entry)) (now (frame .entry)) (now (ahead .exit)) (now (frame .exit)) × Sound (r .card) (now (ram .exit)) (now (dir .exit)) ⌝ }
 {
     if left == 0 {
-        return Served {
-            driver: d,
-            card: c,
-            answer: Answer::Refused(Refusal::BudgetShort),
-            left: 0,
-            paused: false,
-        };
+        return items::short(c, d, 0);
     }
     let got = steps::read_word(ram, dir, c, driver_rules::RX_STATUS);
     let same = got.card;
     let rx = got.value;
     if items::is_bad(rx) {
         if left == 1 {
-            return Served {
-                driver: d,
-                card: same,
-                answer: Answer::Refused(Refusal::BudgetShort),
-                left: 0,
-                paused: false,
-            };
+            return items::short(same, d, 0);
         }
-        let dropped = steps::write_word(
-            ram,
-            dir,
-            same,
-            driver_rules::STATUS,
-            driver_rules::RX_DISCARD,
-        );
+        let dropped = items::discard(ram, dir, same);
         if turns == 0 {
             return Served {
                 driver: d,
@@ -138,14 +83,6 @@ fn receive(
         }
         return look(ram, dir, dropped, d, ahead, frame, left - 2, turns - 1);
     }
-    items::fetch(
-        ram,
-        dir,
-        same,
-        d,
-        ahead,
-        frame,
-        left - 1,
-        (rx % 2048) as usize,
-    )
+    let n = (rx % items::sizes::RAW_COUNT) as usize;
+    items::fetch(ram, dir, same, d, ahead, frame, left - 1, n)
 }

@@ -1,4 +1,4 @@
-// What each of the card's steps does before it is settled.
+// What a step of the card does before it is settled, where that is more than a call.
 ghost use mathlib.Core.Path.{_≡_};
 ghost use Prim.Native.Nat.{_%_, _≤_, _<_};
 ghost use lib.ListN.{length};
@@ -92,7 +92,7 @@ fn with_receive(c: Card, receive: receive_rules::Receive) -> Card
 }
 
 // A frame starts.
-pub fn start(ram: &mut [u8], dir: &mut [u16], c: Card, first: [u8; 8]) -> Card
+pub fn wire_start(ram: &mut [u8], dir: &mut [u16], c: Card, first: [u8; 8]) -> Card
     requires { ⌜ Sound c (now ram) (now dir) × (c .receive .receiver .wire ≡ 0) ⌝ }
     ensures { λ r. ⌜ Is r (now (ram .exit)) (now (dir .exit)) (withRx (wire.wireStart (rxSizeOf c) (takenOf first (view c (now (ram .entry)) (now (dir .entry)))) first (view c (now (ram .entry)) (now (dir .entry)) .rx)) (view c (now (ram .entry)) (now (dir .entry)))) ⌝ }
 {
@@ -110,17 +110,8 @@ pub fn start(ram: &mut [u8], dir: &mut [u16], c: Card, first: [u8; 8]) -> Card
     with_receive(c, receive)
 }
 
-// A byte comes.
-pub fn byte(ram: &mut [u8], dir: &mut [u16], c: Card, b: u8) -> Card
-    requires { ⌜ Sound c (now ram) (now dir) ⌝ }
-    ensures { λ r. ⌜ Is r (now (ram .exit)) (now (dir .exit)) (withRx (wire.wireByte (rxSizeOf c) b (view c (now (ram .entry)) (now (dir .entry)) .rx)) (view c (now (ram .entry)) (now (dir .entry)))) ⌝ }
-{
-    receive::wire_byte(ram, dir, regs::rx_size(c.config.second), c.receive, b);
-    c
-}
-
 // The frame ends.
-pub fn end(ram: &mut [u8], dir: &mut [u16], c: Card, check: bool, alignment: bool) -> Card
+pub fn wire_end(ram: &mut [u8], dir: &mut [u16], c: Card, check: bool, alignment: bool) -> Card
     requires { ⌜ Sound c (now ram) (now dir) ⌝ }
     ensures { λ r. ⌜ Is r (now (ram .exit)) (now (dir .exit)) (withRx (wire.wireEnd check alignment (view c (now (ram .entry)) (now (dir .entry)) .rx)) (view c (now (ram .entry)) (now (dir .entry)))) ⌝ }
 {
@@ -136,12 +127,12 @@ pub fn end(ram: &mut [u8], dir: &mut [u16], c: Card, check: bool, alignment: boo
 }
 
 // The oldest packet goes out.
-pub fn sent(ram: &mut [u8], dir: &mut [u16], c: Card, out: &mut [u8]) -> Gone
+pub fn success(ram: &mut [u8], dir: &mut [u16], c: Card, out: &mut [u8]) -> Gone
     requires { ⌜ Sound c (now ram) (now dir) × (0 < c .transmit .fifo .packets) × (1792 ≤ length (now out)) ⌝ }
     ensures { λ r. ⌜ Is (r .card) (now (ram .exit)) (now (dir .exit)) (withTx (tx.success (view c (now (ram .entry)) (now (dir .entry)) .tx)) (view c (now (ram .entry)) (now (dir .entry)))) ⌝ }
     ensures { λ r. ⌜ Tells (r .n) (now (out .entry)) (now (out .exit)) (toldOf (view c (now (ram .entry)) (now (dir .entry)) .tx .queue .packets)) ⌝ }
 {
-    let gone = transmit::sent(ram, dir, regs::tx_size(c.config.second), c.transmit, out);
+    let gone = transmit::success(ram, dir, regs::tx_size(c.config.second), c.transmit, out);
     let n = gone.n;
     let transmit = gone.transmit;
     let mut next = c;
@@ -150,11 +141,11 @@ pub fn sent(ram: &mut [u8], dir: &mut [u16], c: Card, out: &mut [u8]) -> Gone
 }
 
 // The oldest packet is lost to 16 collisions.
-pub fn collided(ram: &mut [u8], dir: &mut [u16], c: Card) -> Card
+pub fn collisions(ram: &mut [u8], dir: &mut [u16], c: Card) -> Card
     requires { ⌜ Sound c (now ram) (now dir) × (0 < c .transmit .fifo .packets) ⌝ }
     ensures { λ r. ⌜ Is r (now (ram .exit)) (now (dir .exit)) (withTx (tx.collisions (view c (now (ram .entry)) (now (dir .entry)) .tx)) (view c (now (ram .entry)) (now (dir .entry)))) ⌝ }
 {
-    let transmit = transmit::collided(ram, dir, regs::tx_size(c.config.second), c.transmit);
+    let transmit = transmit::collisions(ram, dir, regs::tx_size(c.config.second), c.transmit);
     let mut next = c;
     next.transmit = transmit;
     next

@@ -7,11 +7,9 @@ ghost use Rattle.transmit_rules.specs.Leave.{toldOf};
 ghost use Rattle.transmit_rules.specs.QueueView.{queueOf, Tells};
 ghost use Rattle.transmit_rules.specs.Outcome as outcome;
 ghost use Rattle.transmit_rules.specs.OutcomesView.{Stacked};
-ghost use Rattle.transmit_rules.specs.Tx.{onReports, txPowerOn, writeData, idle, ready, success, collisions, txReset, settle as settleOf};
-ghost use Rattle.transmit_rules.specs.View.{txOf, Sound, Unsettled, Step, Is, Does, Says, soundSide};
-use transmit_rules::Fifo;
+ghost use Rattle.transmit_rules.specs.Tx.{onReports, writeData, ready, success as successOf, collisions as collisionsOf, settle as settleOf};
+ghost use Rattle.transmit_rules.specs.View.{txOf, Sound, Unsettled, Step, Does, Says, soundSide};
 use transmit_rules::Gone;
-use transmit_rules::Outcomes;
 use transmit_rules::Transmit;
 
 pub mod outcomes; // outcomes.rt: the sender's registers and the TX status stack: what send outcomes report, and the commands that turn the transmitter on and off
@@ -21,23 +19,8 @@ mod statuses; // statuses.rt: the TX status stack: at most 31 entries, oldest fi
 pub use outcomes::has_status;
 pub use outcomes::reset;
 pub use outcomes::top_status;
-// `size` is the transmitter's part of the RAM: the last `size` bytes of `ram`.
 
-// Power-on.
-pub fn fresh() -> Transmit
-    ensures { λ r. ⌜ Is r txPowerOn ⌝ }
-{
-    let none = Fifo {
-        failed: false,
-        packets: 0,
-        words: 0,
-    };
-    let o = outcomes::fresh();
-    Transmit {
-        fifo: none,
-        outcomes: o,
-    }
-}
+// `size` is the transmitter's part of the RAM: the last `size` bytes of `ram`.
 
 // The test that a call makes of what it is handed.
 pub fn tx_sound(ram: &[u8], dir: &[u16], size: usize, t: Transmit) -> bool
@@ -73,15 +56,6 @@ pub fn write_data(ram: &mut [u8], dir: &mut [u16], size: usize, t: Transmit, v: 
     next
 }
 
-// No packet and no part of one is written.
-pub fn is_idle(t: Transmit) -> bool
-    ensures { λ r. ⌜ Says t r idle ⌝ }
-{
-    let n = t.fifo.packets;
-    let k = t.fifo.words;
-    !(0 < n) & (k == 0)
-}
-
 // A send outcome is possible.
 pub fn is_ready(t: Transmit) -> bool
     ensures { λ r. ⌜ Says t r ready ⌝ }
@@ -91,15 +65,15 @@ pub fn is_ready(t: Transmit) -> bool
 }
 
 // Success: the oldest packet goes, and the first `n` bytes of `out` are what the wire is told.
-pub fn sent(ram: &mut [u8], dir: &mut [u16], size: usize, t: Transmit, out: &mut [u8]) -> Gone
+pub fn success(ram: &mut [u8], dir: &mut [u16], size: usize, t: Transmit, out: &mut [u8]) -> Gone
     requires { ⌜ Sound size t (now ram) (now dir) × (0 < t .fifo .packets) × (1792 ≤ length (now out)) ⌝ }
-    ensures { λ r. ⌜ Step size (r .transmit) (now (ram .entry)) (now (dir .entry)) (now (ram .exit)) (now (dir .exit)) (success (txOf size t (now (ram .entry)) (now (dir .entry)))) ⌝ }
+    ensures { λ r. ⌜ Step size (r .transmit) (now (ram .entry)) (now (dir .entry)) (now (ram .exit)) (now (dir .exit)) (successOf (txOf size t (now (ram .entry)) (now (dir .entry)))) ⌝ }
     ensures { λ r. ⌜ Tells (r .n) (now (out .entry)) (now (out .exit)) (toldOf (txOf size t (now (ram .entry)) (now (dir .entry)) .queue .packets)) ⌝ }
 {
     let wanted = queue::oldest_wanted(ram, dir, size, t.fifo);
     let n = queue::tell(ram, dir, size, t.fifo, out);
     let f = queue::leave_first(ram, dir, size, t.fifo);
-    let o = outcomes::succeeded(t.outcomes, wanted);
+    let o = outcomes::success(t.outcomes, wanted);
     let next = Transmit {
         fifo: f,
         outcomes: o,
@@ -111,30 +85,13 @@ pub fn sent(ram: &mut [u8], dir: &mut [u16], size: usize, t: Transmit, out: &mut
 }
 
 // 16 collisions: the oldest packet goes, and the transmitter is off.
-pub fn collided(ram: &mut [u8], dir: &mut [u16], size: usize, t: Transmit) -> Transmit
+pub fn collisions(ram: &mut [u8], dir: &mut [u16], size: usize, t: Transmit) -> Transmit
     requires { ⌜ Sound size t (now ram) (now dir) × (0 < t .fifo .packets) ⌝ }
-    ensures { λ r. ⌜ Step size r (now (ram .entry)) (now (dir .entry)) (now (ram .exit)) (now (dir .exit)) (collisions (txOf size t (now (ram .entry)) (now (dir .entry)))) ⌝ }
+    ensures { λ r. ⌜ Step size r (now (ram .entry)) (now (dir .entry)) (now (ram .exit)) (now (dir .exit)) (collisionsOf (txOf size t (now (ram .entry)) (now (dir .entry)))) ⌝ }
 {
     let wanted = queue::oldest_wanted(ram, dir, size, t.fifo);
     let f = queue::leave_first(ram, dir, size, t.fifo);
-    let o = outcomes::collided(t.outcomes, wanted);
-    Transmit {
-        fifo: f,
-        outcomes: o,
-    }
-}
-
-// TX Reset: the FIFO is empty, no failure stands, and the transmitter is off; statuses stay.
-pub fn tx_reset(t: Transmit) -> Transmit
-    requires { ⌜ Stacked (t .outcomes) ⌝ }
-    ensures { λ r. ⌜ Does t r txReset ⌝ }
-{
-    let f = Fifo {
-        failed: false,
-        packets: 0,
-        words: 0,
-    };
-    let o = outcomes::reset(t.outcomes);
+    let o = outcomes::collisions(t.outcomes, wanted);
     Transmit {
         fifo: f,
         outcomes: o,
@@ -165,61 +122,6 @@ pub fn pop_status(t: Transmit) -> Transmit
     ensures { λ r. ⌜ Does t r (onReports outcome.pop) ⌝ }
 {
     let o = outcomes::pop_status(t.outcomes);
-    let mut next = t;
-    next.outcomes = o;
-    next
-}
-
-// TX Enable: nothing while the status stack is full.
-pub fn enable(t: Transmit) -> Transmit
-    requires { ⌜ Stacked (t .outcomes) ⌝ }
-    ensures { λ r. ⌜ Does t r (onReports outcome.enable) ⌝ }
-{
-    let o = outcomes::enable(t.outcomes);
-    let mut next = t;
-    next.outcomes = o;
-    next
-}
-
-// TX Disable.
-pub fn disable(t: Transmit) -> Transmit
-    requires { ⌜ Stacked (t .outcomes) ⌝ }
-    ensures { λ r. ⌜ Does t r (onReports outcome.off) ⌝ }
-{
-    let o = outcomes::disable(t.outcomes);
-    let mut next = t;
-    next.outcomes = o;
-    next
-}
-
-// The TX Available threshold.
-pub fn set_level(t: Transmit, n: u16) -> Transmit
-    requires { ⌜ Stacked (t .outcomes) ⌝ }
-    ensures { λ r. ⌜ Does t r (onReports (outcome.setLevel n)) ⌝ }
-{
-    let o = outcomes::set_level(t.outcomes, n);
-    let mut next = t;
-    next.outcomes = o;
-    next
-}
-
-// The TX Start threshold.
-pub fn set_start(t: Transmit, n: u16) -> Transmit
-    requires { ⌜ Stacked (t .outcomes) ⌝ }
-    ensures { λ r. ⌜ Does t r (onReports (outcome.setStart n)) ⌝ }
-{
-    let o = outcomes::set_start(t.outcomes, n);
-    let mut next = t;
-    next.outcomes = o;
-    next
-}
-
-// Acknowledging TX Available, where it is named.
-pub fn acknowledge(t: Transmit, named: bool) -> Transmit
-    requires { ⌜ Stacked (t .outcomes) ⌝ }
-    ensures { λ r. ⌜ Does t r (onReports (outcome.acknowledge named)) ⌝ }
-{
-    let o = outcomes::acknowledge(t.outcomes, named);
     let mut next = t;
     next.outcomes = o;
     next

@@ -70,7 +70,7 @@ pub fn pop_status(o: Outcomes) -> Outcomes
 }
 
 // What a success reports; `wanted` is bit 15 of the packet's preamble.
-pub fn succeeded(o: Outcomes, wanted: bool) -> Outcomes
+pub fn success(o: Outcomes, wanted: bool) -> Outcomes
     requires { ⌜ Stacked o ⌝ }
     ensures { λ r. ⌜ Reported r (outcome.succeeded wanted (reportsOf o)) ⌝ }
 {
@@ -81,7 +81,7 @@ pub fn succeeded(o: Outcomes, wanted: bool) -> Outcomes
 }
 
 // What 16 collisions report: the transmitter is off then.
-pub fn collided(o: Outcomes, wanted: bool) -> Outcomes
+pub fn collisions(o: Outcomes, wanted: bool) -> Outcomes
     requires { ⌜ Stacked o ⌝ }
     ensures { λ r. ⌜ Reported r (outcome.collided wanted (reportsOf o)) ⌝ }
 {

@@ -1,21 +1,18 @@
 -- The FIFO does not see what changes below its area, the receive side's bytes and words; while nothing is written it does not see its size. Assumes nothing.
 use mathlib.Core.Path.{_≡_, refl, sym, ap, ap₂, _∙_}
 use mathlib.Core.Logic.{inr}
-use mathlib.Core.List.{List, [], _∷_}
+use mathlib.Core.List.{List, []}
 use Prim.Native.Nat.{ℕ, zero, suc, _+_, _*_, _-_, _≤_}
 use native.Mathlib.Omega.{arith}
 use lib.ListN.{length, getD}
 use lib.Seq.{getD-drop}
 use Rattle.store.specs.declared.Area.{Area}
-use Rattle.store.specs.Store as store
 use Rattle.store.specs.Store.{Frame, frames, roomOf, part, Kept}
-use Rattle.store.proofs.Laws.{kept-part, part-cons}
+use Rattle.store.proofs.Laws.{kept-part}
 use Rattle.store.proofs.Lift.{apart-kept}
 use Rattle.transmit_rules.specs.declared.Fifo.{Fifo}
 use Rattle.transmit_rules.specs.Queue.{Part, noPart}
-use Rattle.transmit_rules.specs.QueueSound.{orderly}
-use Rattle.transmit_rules.specs.QueueView.{txArea, packetsOf, partOf, queueOf, Packed, Holds}
-use Rattle.transmit_rules.proofs.Facts.{words-of}
+use Rattle.transmit_rules.specs.QueueView.{txArea, partOf, queueOf, Packed}
 
 -- below the area
 abbrev below : ℕ → Area
@@ -50,21 +47,7 @@ module _ (size : ℕ) (f : Fifo) (ram dir ram′ dir′ : List ℕ) (kr : Kept 0
     pub queue-kept : queueOf size f ram′ dir′ ≡ queueOf size f ram dir
     queue-kept = both-kept .1
 
-  pub holds-kept : Holds size f ram dir → Holds size f ram′ dir′
-  holds-kept H = record { small = H .small; packed = packed-kept (H .packed); calm = ap (orderly size) (queue-kept (H .packed)) ∙ H .calm }
-
 -- ---- the same FIFO in another size, while nothing is written
-
-cons-not : {p : Frame} {ps : List Frame} → _≡_ {A = List Frame} (p ∷ ps) [] → ⊥
-cons-not e = let z : _≡_ {A = ℕ} 0 1 = cc in omega arith
-
-pub no-packets : (size n : ℕ) (ram dir : List ℕ) → store.Sound (txArea size) n ram dir → packetsOf size n ram dir ≡ [] → n ≡ 0
-unfolding frames
-no-packets size zero ram dir S e = refl
-no-packets size (suc k) ram dir S e =
-    let few : suc k ≤ 342 = S .few in
-    let dirs : 768 + 342 ≤ length dir = S .in-dir in
-    absurd (cons-not (rw (part-cons dir 768 k (omega arith)) at e))
 
 -- nothing is written: the counts are 0
 pub idle-packed : (size : ℕ) (f : Fifo) (ram dir : List ℕ) → f .packets ≡ 0 → size ≤ 4096 → 8192 ≤ length ram → 1110 ≤ length dir → Packed size f ram dir
@@ -74,10 +57,3 @@ idle-packed size f ram dir e s hr hd = record { in-ram = omega arith; in-dir = o
 pub idle-queue : (size : ℕ) (f : Fifo) (ram dir : List ℕ) → f .packets ≡ 0 → f .words ≡ 0 → queueOf size f ram dir ≡ record { failed = f .failed; packets = []; part = noPart }
 unfolding frames partOf
 idle-queue size f ram dir e d = rw (e, d)
-
-pub resized : (size size′ : ℕ) (f : Fifo) (ram dir : List ℕ) → Packed size f ram dir → queueOf size f ram dir .packets ≡ [] → queueOf size f ram dir .part .words ≡ 0
-    → size′ ≤ 4096 → 8192 ≤ length ram → 1110 ≤ length dir → Packed size′ f ram dir × (queueOf size′ f ram dir ≡ queueOf size f ram dir)
-resized size size′ f ram dir P p w s hr hd =
-    let e : f .packets ≡ 0 = no-packets size (f .packets) ram dir P p in
-    let d : f .words ≡ 0 = sym (words-of size (f .packets) (f .words) ram dir) ∙ w in
-    (idle-packed size′ f ram dir e s hr hd, idle-queue size′ f ram dir e d ∙ sym (idle-queue size f ram dir e d))

@@ -1,20 +1,17 @@
 -- Every effect keeps the transmit side sound but for TX Available, and settle makes it sound: over the definitions alone. Assumes nothing.
 use mathlib.Core.Path.{_≡_, refl, ap}
-use mathlib.Core.Bool.{Bool, true, _&&_}
+use mathlib.Core.Bool.{Bool, true}
 use mathlib.Core.List.{[]}
-use Prim.Native.Nat.{ℕ, _≤_}
+use Prim.Native.Nat.{ℕ}
 use Rattle.transmit_rules.specs.Queue.{noPart, free}
 use Rattle.transmit_rules.specs.Leave.{leave, oldestWanted}
 use Rattle.transmit_rules.specs.QueueSound.{orderly}
-use Rattle.bits.proofs.Tests.{both}
+use Rattle.bits.proofs.Tests.{both, join}
 use Rattle.transmit_rules.proofs.QueueKeeps.{put-keeps, leave-keeps, none-orderly, empty-orderly}
 use Rattle.transmit_rules.specs.Reports.{Reports}
-use Rattle.transmit_rules.specs.Outcome.{succeeded, collided, pop, enable, off, reset, setLevel, setStart, acknowledge, filled, availableSettled}
+use Rattle.transmit_rules.specs.Outcome.{succeeded, collided, reset, acknowledge, filled, availableSettled}
 use Rattle.transmit_rules.proofs.OutcomesKeeps as outcome
 use Rattle.transmit_rules.specs.Tx.{Tx, withReports, onReports, txPowerOn, writeData, success, collisions, txReset, settle, kept, sound}
-
-and-both : (a b : Bool) → a ≡ true → b ≡ true → (a && b) ≡ true
-and-both a b h k = rw (h, k)
 
 pub kept-orderly : (size : ℕ) (x : Tx) → kept size x ≡ true → orderly size (x .queue) ≡ true
 kept-orderly size x h = both (orderly size (x .queue)) (filled (x .reports)) h .0
@@ -23,7 +20,7 @@ pub kept-filled : (size : ℕ) (x : Tx) → kept size x ≡ true → filled (x .
 kept-filled size x h = both (orderly size (x .queue)) (filled (x .reports)) h .1
 
 pub kept-of : (size : ℕ) (x : Tx) → orderly size (x .queue) ≡ true → filled (x .reports) ≡ true → kept size x ≡ true
-kept-of size x o f = and-both (orderly size (x .queue)) (filled (x .reports)) o f
+kept-of size x o f = join (orderly size (x .queue)) (filled (x .reports)) o f
 
 pub sound-kept : (size : ℕ) (x : Tx) → sound size x ≡ true → kept size x ≡ true
 sound-kept size x h = both (kept size x) (availableSettled (free size (x .queue)) (x .reports .sender)) h .0
@@ -36,37 +33,22 @@ write-kept size v x h = kept-of size (writeData size v x) (put-keeps size v (x .
 pub success-kept : (size : ℕ) (x : Tx) → kept size x ≡ true → kept size (success x) ≡ true
 unfolding success
 success-kept size x h =
-    and-both (orderly size (leave (x .queue))) (filled (succeeded (oldestWanted (x .queue .packets)) (x .reports)))
+    join (orderly size (leave (x .queue))) (filled (succeeded (oldestWanted (x .queue .packets)) (x .reports)))
     (leave-keeps size (x .queue) (kept-orderly size x h)) (outcome.succeeded-keeps (oldestWanted (x .queue .packets)) (x .reports) (kept-filled size x h))
 
 pub collisions-kept : (size : ℕ) (x : Tx) → kept size x ≡ true → kept size (collisions x) ≡ true
 unfolding collisions
 collisions-kept size x h =
-    and-both (orderly size (leave (x .queue))) (filled (collided (oldestWanted (x .queue .packets)) (x .reports)))
+    join (orderly size (leave (x .queue))) (filled (collided (oldestWanted (x .queue .packets)) (x .reports)))
     (leave-keeps size (x .queue) (kept-orderly size x h)) (outcome.collided-keeps (oldestWanted (x .queue .packets)) (x .reports) (kept-filled size x h))
 
 pub reset-kept : (size : ℕ) (x : Tx) → kept size x ≡ true → kept size (txReset x) ≡ true
 unfolding txReset
-reset-kept size x h = and-both _ (filled (reset (x .reports))) (empty-orderly size) (outcome.reset-keeps (x .reports) (kept-filled size x h))
+reset-kept size x h = join _ (filled (reset (x .reports))) (empty-orderly size) (outcome.reset-keeps (x .reports) (kept-filled size x h))
 
 -- an effect on the reports alone
 pub reports-kept : (g : Reports → Reports) → ((r : Reports) → filled r ≡ true → filled (g r) ≡ true) → (size : ℕ) (x : Tx) → kept size x ≡ true → kept size (onReports g x) ≡ true
 reports-kept g k size x h = kept-of size (onReports g x) (kept-orderly size x h) (k (x .reports) (kept-filled size x h))
-
-pub pop-kept : (size : ℕ) (x : Tx) → kept size x ≡ true → kept size (onReports pop x) ≡ true
-pop-kept = reports-kept pop outcome.pop-keeps
-
-pub enable-kept : (size : ℕ) (x : Tx) → kept size x ≡ true → kept size (onReports enable x) ≡ true
-enable-kept = reports-kept enable outcome.enable-keeps
-
-pub disable-kept : (size : ℕ) (x : Tx) → kept size x ≡ true → kept size (onReports off x) ≡ true
-disable-kept = reports-kept off outcome.off-keeps
-
-pub set-level-kept : (n : ℕ) → n ≤ 2047 → (size : ℕ) (x : Tx) → kept size x ≡ true → kept size (onReports (setLevel n) x) ≡ true
-set-level-kept n h = reports-kept (setLevel n) (λ r. outcome.set-level-keeps n r h)
-
-pub set-start-kept : (n : ℕ) → n ≤ 2047 → (size : ℕ) (x : Tx) → kept size x ≡ true → kept size (onReports (setStart n) x) ≡ true
-set-start-kept n h = reports-kept (setStart n) (λ r. outcome.set-start-keeps n r h)
 
 pub acknowledge-kept : (named : Bool) (size : ℕ) (x : Tx) → kept size x ≡ true → kept size (onReports (acknowledge named) x) ≡ true
 acknowledge-kept named = reports-kept (acknowledge named) (outcome.acknowledge-keeps named)
@@ -78,7 +60,7 @@ none-kept size x p e f = kept-of size x (none-orderly size (x .queue) p e) f
 -- ---- settle
 
 pub settle-sound : (size : ℕ) (x : Tx) → kept size x ≡ true → sound size (settle size x) ≡ true
-settle-sound size x h = and-both (kept size (settle size x)) _ h (outcome.settle-settles (free size (x .queue)) (x .reports))
+settle-sound size x h = join (kept size (settle size x)) _ h (outcome.settle-settles (free size (x .queue)) (x .reports))
 
 -- a sound side stays as it is
 pub settle-stays : (size : ℕ) (x : Tx) → sound size x ≡ true → settle size x ≡ x
@@ -86,9 +68,6 @@ settle-stays size x h =
     let p = both (kept size x) (availableSettled (free size (x .queue)) (x .reports .sender)) h in
     ap (λ (r : Reports). withReports r x) (outcome.settle-stays (free size (x .queue)) (x .reports) (p .1))
 
-pub settle-keeps : (size : ℕ) (x : Tx) → sound size x ≡ true → sound size (settle size x) ≡ true
-settle-keeps size x h = settle-sound size x (sound-kept size x h)
-
 -- power-on, in any size
 pub power-on-sound : (size : ℕ) → sound size txPowerOn ≡ true
-power-on-sound size = and-both (kept size txPowerOn) _ (none-kept size txPowerOn refl refl refl) (outcome.power-on-settled (free size (txPowerOn .queue)))
+power-on-sound size = join (kept size txPowerOn) _ (none-kept size txPowerOn refl refl refl) (outcome.power-on-settled (free size (txPowerOn .queue)))

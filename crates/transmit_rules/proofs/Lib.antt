@@ -1,19 +1,22 @@
--- The transmit side: the FIFO and the packet that leaves it, the status stack, the sender and what it reports, and the whole together.
-pub mod Apart
-pub mod Entries
-pub mod Facts
-pub mod Keeps
-pub mod Logic
-pub mod OutcomesExamples
-pub mod OutcomesKeeps
+-- Laws and worked examples.
+-- the FIFO, in the order of document 01's section "Transmitting"
 pub mod Parts
+pub mod Facts
 pub mod Put
-mod QueueExamples
 pub mod QueueKeeps
 pub mod QueueSound
-pub mod Sound
+pub mod Apart
+pub mod Whole
+mod QueueExamples
+-- the status stack
 pub mod StackEntries
 mod StatusesExamples
+-- the send outcomes
+pub mod Entries
+pub mod OutcomesKeeps
+pub mod OutcomesExamples
+-- the transmit side whole
 pub mod Steps
+pub mod Keeps
+pub mod Sound
 mod TransmitExamples
-pub mod Whole

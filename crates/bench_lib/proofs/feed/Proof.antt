@@ -16,17 +16,17 @@ abbrev μ-loop : tie.MeasureT-loop
 loop-holds : tie.Need-loop-holds Inv-loop μ-loop
 loop-holds c = search needs
 
-until-requires : tie.Need-until-requires Inv-loop μ-loop
-until-requires c κs = omega (arith, c .loop-test .taken)
+find-requires : tie.Need-find-requires Inv-loop μ-loop
+find-requires c κs = (omega (arith, c .loop-test .taken), omega arith)
 
 sub-append : tie.Need-sub-append Inv-loop μ-loop
-sub-append c = omega (arith, c .before .until .ensures)
+sub-append c = omega (arith, c .before .find .ensures)
 
 part-append-start : tie.Need-part-append-start Inv-loop μ-loop
-part-append-start c = omega (arith, c .before .until .ensures)
+part-append-start c = omega (arith, c .before .find .ensures)
 
 part-append-end : tie.Need-part-append-end Inv-loop μ-loop
-part-append-end c = omega (arith, c .before .until .ensures)
+part-append-end c = omega (arith, c .before .find .ensures)
 
 append-requires : tie.Need-append-requires Inv-loop μ-loop
 append-requires c κs = search needs
@@ -34,14 +34,14 @@ append-requires c κs = search needs
 answered-requires : tie.Need-answered-requires Inv-loop μ-loop
 answered-requires c κs = search needs
 
-past-requires : tie.Need-past-requires Inv-loop μ-loop
-past-requires c κs = c .before .before .before .before .before .if1 .left
+add-at : tie.Need-add-at Inv-loop μ-loop
+add-at c = omega (arith, c .before .before .before .before .before .if1 .left, c .before .before .before .before .before .before .before .before .before .before .before .before .before .before .good .1 .1 .1 .1 .0 .0)
 
 loop-less : tie.Need-loop-less Inv-loop μ-loop
-loop-less c = omega (arith, c .past .ensures, c .before .before .before .before .before .before .if1 .left, c .before .before .before .before .before .before .before .before .before .before .until .ensures, c .before .before .before .before .before .before .before .before .before .before .before .loop-test .taken)
+loop-less c = omega (arith, c .before .before .before .before .before .if1 .left, c .before .before .before .before .before .before .before .before .before .find .ensures, c .before .before .before .before .before .before .before .before .before .before .loop-test .taken)
 
 loop-again : tie.Need-loop-again Inv-loop μ-loop
-loop-again c = omega (arith, c .past .ensures, c .before .before .before .before .before .before .if1 .left, c .before .before .before .before .before .before .before .before .before .before .until .ensures, c .before .before .before .before .before .before .before .before .before .before .before .loop-test .taken)
+loop-again c = omega (arith, c .before .before .before .before .before .if1 .left)
 
 returns : tie.Need-returns Inv-loop μ-loop
 returns c = search needs
@@ -56,13 +56,13 @@ feed-spec =
     Inv-loop
     μ-loop
     loop-holds
-    until-requires
+    find-requires
     sub-append
     part-append-start
     part-append-end
     append-requires
     answered-requires
-    past-requires
+    add-at
     loop-less
     loop-again
     returns

@@ -17,9 +17,9 @@ returns-2 c =
     let e = holds (c .before .before .before .is-sound .ensures) (c .before .before .if1 .left) in
     refuses _ _ 10 _ _ _ _ _ e (fails (c .before .is-ready .ensures _ _ _ (card-told _ _ _ (search needs) (search needs) e .held .packets)) (c .if2 .taken))
 
-collided-requires : tie.Need-collided-requires
+collisions-requires : tie.Need-collisions-requires
 unfolding view
-collided-requires c κs =
+collisions-requires c κs =
     let s = card-told _ _ _ (search needs) (search needs) (holds (c .before .before .before .before .before .is-sound .ensures) (c .before .before .before .before .if1 .left)) in
     (s, ready-some _ (c .before .before .before .before .before .before .before .before .before .before .args .c .transmit) _ _ (s .held .packets) (holds (c .before .before .before .is-ready .ensures _ _ _ (s .held .packets)) (c .before .before .if2 .left)))
 
@@ -27,7 +27,7 @@ returns-3 : tie.Need-returns-3
 unfolding view
 returns-3 c =
     let e = holds (c .before .before .before .before .before .before .is-sound .ensures) (c .before .before .before .before .before .if1 .left) in
-    goes _ _ 10 _ _ _ _ _ _ _ _ _ e (holds (c .before .before .before .before .is-ready .ensures _ _ _ (card-told _ _ _ (search needs) (search needs) e .held .packets)) (c .before .before .before .if2 .left)) refl (c .collided .ensures)
+    goes _ _ 10 _ _ _ _ _ _ _ _ _ e (holds (c .before .before .before .before .is-ready .ensures _ _ _ (card-told _ _ _ (search needs) (search needs) e .held .packets)) (c .before .before .before .if2 .left)) refl (c .collisions .ensures)
 
 pub collisions-spec : {M : Type 1} → statement M
-collisions-spec = tie.close (tie.spec (λ c κs. search needs) returns (λ c κs. search needs) returns-2 collided-requires returns-3)
+collisions-spec = tie.close (tie.spec (λ c κs. search needs) returns (λ c κs. search needs) returns-2 collisions-requires returns-3)

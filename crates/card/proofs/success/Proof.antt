@@ -23,9 +23,9 @@ returns-2 c =
     let f = fails (c .before .is-ready .ensures _ _ _ (card-told _ _ _ (search needs) (search needs) e .held .packets)) (c .if2 .taken) in
     (refuses _ _ 10 _ _ _ _ _ e f, refused-area _ _ 10 _ _ e f)
 
-sent-requires : tie.Need-sent-requires
+success-requires : tie.Need-success-requires
 unfolding view
-sent-requires c κs =
+success-requires c κs =
     let s = card-told _ _ _ (search needs) (search needs) (holds (c .before .before .before .before .before .before .is-sound .ensures) (c .before .before .before .before .before .if1 .left)) in
     let l : 1792 ≤ length (c .before .before .before .before .before .before .before .before .before .before .before .args .out .now) = search needs in
     (s, ready-some _ (c .before .before .before .before .before .before .before .before .before .before .before .args .c .transmit) _ _ (s .held .packets) (holds (c .before .before .before .before .is-ready .ensures _ _ _ (s .held .packets)) (c .before .before .before .if2 .left)), l)
@@ -35,9 +35,9 @@ unfolding view
 returns-3 c =
     let e = holds (c .before .before .before .before .before .before .before .before .is-sound .ensures) (c .before .before .before .before .before .before .before .if1 .left) in
     let f = holds (c .before .before .before .before .before .before .is-ready .ensures _ _ _ (card-told _ _ _ (search needs) (search needs) e .held .packets)) (c .before .before .before .before .before .if2 .left) in (
-      goes _ _ 10 _ _ _ _ _ _ _ _ _ e f (ap value (c .before .sent .ensures .1 .count)) (c .before .sent .ensures .0),
-      told-area _ _ 10 _ _ _ _ e f (c .before .sent .ensures .1),
+      goes _ _ 10 _ _ _ _ _ _ _ _ _ e f (ap value (c .before .success .ensures .1 .count)) (c .before .success .ensures .0),
+      told-area _ _ 10 _ _ _ _ e f (c .before .success .ensures .1),
     )
 
 pub success-spec : {M : Type 1} → statement M
-success-spec = tie.close (tie.spec (λ c κs. search needs) returns (λ c κs. search needs) returns-2 sent-requires returns-3)
+success-spec = tie.close (tie.spec (λ c κs. search needs) returns (λ c κs. search needs) returns-2 success-requires returns-3)

@@ -12,12 +12,12 @@ returns c = unsound _ _ 10 _ _ _ _ _ (fails (c .before .is-sound .ensures) (c .i
 returns-2 : tie.Need-returns-2
 returns-2 c = refuses _ _ 10 _ _ _ _ _ (holds (c .before .before .before .is-sound .ensures) (c .before .before .if1 .left)) (fails (c .before .on-wire .ensures) (c .if2 .taken))
 
-byte-requires : tie.Need-byte-requires
-byte-requires c κs = card-told _ _ _ (search needs) (search needs) (holds (c .before .before .before .before .before .is-sound .ensures) (c .before .before .before .before .if1 .left))
+wire-byte-requires : tie.Need-wire-byte-requires
+wire-byte-requires c κs = card-told _ _ _ (search needs) (search needs) (holds (c .before .before .before .before .before .is-sound .ensures) (c .before .before .before .before .if1 .left))
 
 returns-3 : tie.Need-returns-3
 returns-3 c =
-    goes _ _ 10 _ _ _ _ _ _ _ _ _ (holds (c .before .before .before .before .before .before .is-sound .ensures) (c .before .before .before .before .before .if1 .left)) (holds (c .before .before .before .before .on-wire .ensures) (c .before .before .before .if2 .left)) refl (c .byte .ensures)
+    goes _ _ 10 _ _ _ _ _ _ _ _ _ (holds (c .before .before .before .before .before .before .is-sound .ensures) (c .before .before .before .before .before .if1 .left)) (holds (c .before .before .before .before .on-wire .ensures) (c .before .before .before .if2 .left)) refl (c .wire-byte .ensures)
 
 pub wire-byte-spec : {M : Type 1} → statement M
-wire-byte-spec = tie.close (tie.spec (λ c κs. search needs) returns (λ c κs. search needs) returns-2 byte-requires returns-3)
+wire-byte-spec = tie.close (tie.spec (λ c κs. search needs) returns (λ c κs. search needs) returns-2 wire-byte-requires returns-3)

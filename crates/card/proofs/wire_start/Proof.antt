@@ -13,12 +13,12 @@ returns c = unsound _ _ 10 _ _ _ _ _ (fails (c .before .is-sound .ensures) (c .i
 returns-2 : tie.Need-returns-2
 returns-2 c = refuses _ _ 10 _ _ _ _ _ (holds (c .before .before .before .is-sound .ensures) (c .before .before .if1 .left)) (fails (c .before .off-wire .ensures) (c .if2 .taken))
 
-start-requires : tie.Need-start-requires
-start-requires c κs = (card-told _ _ _ (search needs) (search needs) (holds (c .before .before .before .before .before .is-sound .ensures) (c .before .before .before .before .if1 .left)), eqb-true _ _ (holds (c .before .before .before .off-wire .ensures) (c .before .before .if2 .left)))
+wire-start-requires : tie.Need-wire-start-requires
+wire-start-requires c κs = (card-told _ _ _ (search needs) (search needs) (holds (c .before .before .before .before .before .is-sound .ensures) (c .before .before .before .before .if1 .left)), eqb-true _ _ (holds (c .before .before .before .off-wire .ensures) (c .before .before .if2 .left)))
 
 returns-3 : tie.Need-returns-3
 returns-3 c =
-    goes _ _ 10 _ _ _ _ _ _ _ _ _ (holds (c .before .before .before .before .before .before .is-sound .ensures) (c .before .before .before .before .before .if1 .left)) (holds (c .before .before .before .before .off-wire .ensures) (c .before .before .before .if2 .left)) refl (c .start .ensures)
+    goes _ _ 10 _ _ _ _ _ _ _ _ _ (holds (c .before .before .before .before .before .before .is-sound .ensures) (c .before .before .before .before .before .if1 .left)) (holds (c .before .before .before .before .off-wire .ensures) (c .before .before .before .if2 .left)) refl (c .wire-start .ensures)
 
 pub wire-start-spec : {M : Type 1} → statement M
-wire-start-spec = tie.close (tie.spec (λ c κs. search needs) returns (λ c κs. search needs) returns-2 start-requires returns-3)
+wire-start-spec = tie.close (tie.spec (λ c κs. search needs) returns (λ c κs. search needs) returns-2 wire-start-requires returns-3)

@@ -4,7 +4,8 @@ use mathlib.Core.Path.{refl, sym, ap, _∙_}
 use native.Mathlib.Omega.{arith}
 use lib.ListN.{length}
 use Rattle.catalogue_rules.specs.declared.Written.the-variants.{Bytes}
-use Rattle.catalogue_drop.proofs.Dropped.{settle, too-short, no-file, no-card, too-many, is-twice, behind-it, new-so}
+use Rattle.catalogue_rules.proofs.Changes.{settle}
+use Rattle.catalogue_drop.proofs.Dropped.{too-short, no-file, no-card, too-many, is-twice, behind-it, new-so}
 use borrow.Author.Needs.{needs}
 use Rattle.catalogue_drop.proofs.drop_oldest.Statement.{statement}
 use Rattle.catalogue_drop.proofs.drop_oldest.Tie as tie

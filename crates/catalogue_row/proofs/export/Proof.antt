@@ -3,7 +3,7 @@
 use native.Mathlib.Omega.{arith}
 use mathlib.Core.Path.{sym, _∙_}
 use lib.ListN.{length}
-use Rattle.catalogue_row.proofs.Ways.{writing}
+use Rattle.catalogue_rules.proofs.Changes.{writing}
 use Rattle.catalogue_row.proofs.Fitting.{Fitting, fitting, narrow, damaged}
 use borrow.Author.Needs.{needs}
 use Rattle.catalogue_row.proofs.export.Statement.{statement}

@@ -1,7 +1,8 @@
 -- `catalogue_row::import` meets its contract: each test in its turn, and then the cards are put.
 -- Assumes nothing.
 use native.Mathlib.Omega.{arith}
-use Rattle.catalogue_row.proofs.Ways.{writing, short, ragged, crowded, listed-twice, wrong-maker, wrong-checksum, wrong-secondary, sound}
+use Rattle.catalogue_rules.proofs.Changes.{writing}
+use Rattle.catalogue_row.proofs.Ways.{short, ragged, crowded, listed-twice, wrong-maker, wrong-checksum, wrong-secondary, sound}
 use borrow.Author.Needs.{needs}
 use Rattle.catalogue_row.proofs.import.Statement.{statement}
 use Rattle.catalogue_row.proofs.import.Tie as tie

@@ -13,7 +13,7 @@ returns c = simp (sym (c .before .before .before .before .drives .ensures) ∙ c
 
 returns-2 : tie.Need-returns-2
 unfolding idAfterRead
-returns-2 c = simp (sym (c .before .before .before .before .drives .ensures) ∙ c .before .before .before .if1 .taken, ne-eqb _ _ (λ e. c .if2 .left (e ∙ sym (c .before .before .id-bit .ensures))))
+returns-2 c = simp (c .waiting .ensures, sym (c .before .before .before .before .before .drives .ensures) ∙ c .before .before .before .before .if1 .taken, ne-eqb _ _ (λ e. c .before .if2 .left (e ∙ sym (c .before .before .before .id-bit .ensures))))
 
 returns-3 : tie.Need-returns-3
 unfolding idAfterRead
@@ -21,4 +21,4 @@ returns-3 c = simp (sym (c .before .drives .ensures) ∙ c .if1 .left)
 
 pub id-after-read-spec : {M : Type 1} → statement M
 id-after-read-spec =
-    tie.close (tie.spec (λ c κs. search needs) (λ c κs. search needs) returns returns-2 returns-3)
+    tie.close (tie.spec (λ c κs. search needs) (λ c κs. search needs) returns (λ c κs. search needs) returns-2 returns-3)

@@ -68,23 +68,23 @@ use Rattle.port_rules.proofs.Activation as Rs
 use Rattle.port_rules.proofs.Activation.Laws as Rs′
 use Rattle.lent_port.proofs.seats.empty as begin
 use Rattle.lent_port.proofs.seats.empty.Symbol as begin-def
-use Rattle.lent_port.proofs.seats.empty.Symbol.{name as #lent-steps·seats·empty}
+use Rattle.lent_port.proofs.seats.empty.Symbol.{name as #lent-port·seats·empty}
 use Rattle.lent_port.proofs.seats.empty.Met as begin-thm
 use Rattle.lent_port.proofs.seats.take as take
 use Rattle.lent_port.proofs.seats.take.Symbol as take-def
-use Rattle.lent_port.proofs.seats.take.Symbol.{name as #lent-steps·seats·take}
+use Rattle.lent_port.proofs.seats.take.Symbol.{name as #lent-port·seats·take}
 use Rattle.lent_port.proofs.seats.take.Met as take-thm
 use Rattle.lent_port.proofs.seats.activated as perform
 use Rattle.lent_port.proofs.seats.activated.Symbol as perform-def
-use Rattle.lent_port.proofs.seats.activated.Symbol.{name as #lent-steps·seats·activated}
+use Rattle.lent_port.proofs.seats.activated.Symbol.{name as #lent-port·seats·activated}
 use Rattle.lent_port.proofs.seats.activated.Met as perform-thm
 use Rattle.lent_port.proofs.seats.activated_at as give
 use Rattle.lent_port.proofs.seats.activated_at.Symbol as give-def
-use Rattle.lent_port.proofs.seats.activated_at.Symbol.{name as #lent-steps·seats·activated-at}
+use Rattle.lent_port.proofs.seats.activated_at.Symbol.{name as #lent-port·seats·activated-at}
 use Rattle.lent_port.proofs.seats.activated_at.Met as give-thm
 use Rattle.lent_port.proofs.seats.activation_answer as reply
 use Rattle.lent_port.proofs.seats.activation_answer.Symbol as reply-def
-use Rattle.lent_port.proofs.seats.activation_answer.Symbol.{name as #lent-steps·seats·activation-answer}
+use Rattle.lent_port.proofs.seats.activation_answer.Symbol.{name as #lent-port·seats·activation-answer}
 use Rattle.lent_port.proofs.seats.activation_answer.Met as reply-thm
 use Rattle.lent_port.proofs.activate.Key.{name as #lent-port·activate}
 use Rattle.lent_port.proofs.activate as call
@@ -142,11 +142,11 @@ module _ {M : Type 1} (𝓤 : URA M) (H : Heap 𝓤) (A : Atoms 𝓤) (mem : Mem
   reply-says v r = exE 𝓤 _ (λ ws. snd∗ 𝓤 (sem 𝓤 H A (lasts reply.ended tt (v, tt) ws)) (fact 𝓤 (r ≡ v .answer)))
 
   record Known (𝓣 : Tables 𝓤 H) : Type 1 where
-    begin-known : Triple 𝓤 (𝓣 .C #lent-steps·seats·empty) Begin
-    take-known : Triple 𝓤 (𝓣 .C #lent-steps·seats·take) Take
-    perform-known : Triple 𝓤 (𝓣 .C #lent-steps·seats·activated) Perform
-    give-known : Triple 𝓤 (𝓣 .C #lent-steps·seats·activated-at) Give
-    reply-known : Triple 𝓤 (𝓣 .C #lent-steps·seats·activation-answer) Reply
+    begin-known : Triple 𝓤 (𝓣 .C #lent-port·seats·empty) Begin
+    take-known : Triple 𝓤 (𝓣 .C #lent-port·seats·take) Take
+    perform-known : Triple 𝓤 (𝓣 .C #lent-port·seats·activated) Perform
+    give-known : Triple 𝓤 (𝓣 .C #lent-port·seats·activated-at) Give
+    reply-known : Triple 𝓤 (𝓣 .C #lent-port·seats·activation-answer) Reply
 
 module _ {M : Type 1} (𝓤 : URA M) (H : Heap 𝓤) (A : Atoms 𝓤) (W : Given 𝓤 H A) (mem′ : Memory → SProp 𝓤) (run : Routine → Fun 𝓤) (κ : Lft) (q : Share) (b o : ℕ) (γ : GName) (ys : List IdState) (port tag base : ℕ) (port-fits : port < 2 ^ 16) (tag-fits : tag < 2 ^ 8) (base-fits : base < 2 ^ 8) where
   abbrev n : ℕ
@@ -442,9 +442,9 @@ activate-spec 𝓤 H 𝓜 𝓖 𝓡 =
     entered 𝓤 H (tripleOf 𝓤 H (𝓖 .A) call.signature (call.spec 𝓤 H (𝓖 .A) (𝓜 .mem) (𝓡 .run)))
     (tables 𝓤 H 𝓜 𝓡 code.env .C) (tables 𝓤 H 𝓜 𝓡 code.env .Λ) #lent-port·activate code.function (code.unfolded 𝓤 H 𝓜 𝓡)
     (meets 𝓤 H (𝓖 .A) (givenOf 𝓤 H 𝓜 𝓖) (𝓜 .mem) (𝓡 .run) (tablesOf 𝓤 H 𝓜 (tables 𝓤 H 𝓜 𝓡 code.env)) (record {
-      begin-known = cited 𝓤 H (Begin 𝓤 H (𝓖 .A) (𝓜 .mem) (𝓡 .run)) 𝓜 𝓡 code.env #lent-steps·seats·empty begin-def.routine code.calls-lent-port·seats·empty (begin-thm.met 𝓤 H 𝓜 𝓖 𝓡);
-      take-known = cited 𝓤 H (Take 𝓤 H (𝓖 .A) (𝓜 .mem) (𝓡 .run)) 𝓜 𝓡 code.env #lent-steps·seats·take take-def.routine code.calls-lent-port·seats·take (take-thm.met 𝓤 H 𝓜 𝓖 𝓡);
-      perform-known = cited 𝓤 H (Perform 𝓤 H (𝓖 .A) (𝓜 .mem) (𝓡 .run)) 𝓜 𝓡 code.env #lent-steps·seats·activated perform-def.routine code.calls-lent-port·seats·activated (perform-thm.met 𝓤 H 𝓜 𝓖 𝓡);
-      give-known = cited 𝓤 H (Give 𝓤 H (𝓖 .A) (𝓜 .mem) (𝓡 .run)) 𝓜 𝓡 code.env #lent-steps·seats·activated-at give-def.routine code.calls-lent-port·seats·activated-at (give-thm.met 𝓤 H 𝓜 𝓖 𝓡);
-      reply-known = cited 𝓤 H (Reply 𝓤 H (𝓖 .A) (𝓜 .mem) (𝓡 .run)) 𝓜 𝓡 code.env #lent-steps·seats·activation-answer reply-def.routine code.calls-lent-port·seats·activation-answer (reply-thm.met 𝓤 H 𝓜 𝓖 𝓡);
+      begin-known = cited 𝓤 H (Begin 𝓤 H (𝓖 .A) (𝓜 .mem) (𝓡 .run)) 𝓜 𝓡 code.env #lent-port·seats·empty begin-def.routine code.calls-lent-port·seats·empty (begin-thm.met 𝓤 H 𝓜 𝓖 𝓡);
+      take-known = cited 𝓤 H (Take 𝓤 H (𝓖 .A) (𝓜 .mem) (𝓡 .run)) 𝓜 𝓡 code.env #lent-port·seats·take take-def.routine code.calls-lent-port·seats·take (take-thm.met 𝓤 H 𝓜 𝓖 𝓡);
+      perform-known = cited 𝓤 H (Perform 𝓤 H (𝓖 .A) (𝓜 .mem) (𝓡 .run)) 𝓜 𝓡 code.env #lent-port·seats·activated perform-def.routine code.calls-lent-port·seats·activated (perform-thm.met 𝓤 H 𝓜 𝓖 𝓡);
+      give-known = cited 𝓤 H (Give 𝓤 H (𝓖 .A) (𝓜 .mem) (𝓡 .run)) 𝓜 𝓡 code.env #lent-port·seats·activated-at give-def.routine code.calls-lent-port·seats·activated-at (give-thm.met 𝓤 H 𝓜 𝓖 𝓡);
+      reply-known = cited 𝓤 H (Reply 𝓤 H (𝓖 .A) (𝓜 .mem) (𝓡 .run)) 𝓜 𝓡 code.env #lent-port·seats·activation-answer reply-def.routine code.calls-lent-port·seats·activation-answer (reply-thm.met 𝓤 H 𝓜 𝓖 𝓡);
     }))

@@ -67,19 +67,19 @@ use Rattle.lent_port.proofs.Listed as Rs
 use Rattle.lent_port.proofs.Listed.Laws as Rs′
 use Rattle.lent_port.proofs.seats.empty as begin
 use Rattle.lent_port.proofs.seats.empty.Symbol as begin-def
-use Rattle.lent_port.proofs.seats.empty.Symbol.{name as #lent-steps·seats·empty}
+use Rattle.lent_port.proofs.seats.empty.Symbol.{name as #lent-port·seats·empty}
 use Rattle.lent_port.proofs.seats.empty.Met as begin-thm
 use Rattle.lent_port.proofs.seats.take as take
 use Rattle.lent_port.proofs.seats.take.Symbol as take-def
-use Rattle.lent_port.proofs.seats.take.Symbol.{name as #lent-steps·seats·take}
+use Rattle.lent_port.proofs.seats.take.Symbol.{name as #lent-port·seats·take}
 use Rattle.lent_port.proofs.seats.take.Met as take-thm
 use Rattle.lent_port.proofs.seats.found as perform
 use Rattle.lent_port.proofs.seats.found.Symbol as perform-def
-use Rattle.lent_port.proofs.seats.found.Symbol.{name as #lent-steps·seats·found}
+use Rattle.lent_port.proofs.seats.found.Symbol.{name as #lent-port·seats·found}
 use Rattle.lent_port.proofs.seats.found.Met as perform-thm
 use Rattle.lent_port.proofs.seats.found_at as give
 use Rattle.lent_port.proofs.seats.found_at.Symbol as give-def
-use Rattle.lent_port.proofs.seats.found_at.Symbol.{name as #lent-steps·seats·found-at}
+use Rattle.lent_port.proofs.seats.found_at.Symbol.{name as #lent-port·seats·found-at}
 use Rattle.lent_port.proofs.seats.found_at.Met as give-thm
 use Rattle.lent_port.proofs.answered as reply
 use Rattle.lent_port.proofs.answered.Symbol as reply-def
@@ -141,10 +141,10 @@ module _ {M : Type 1} (𝓤 : URA M) (H : Heap 𝓤) (A : Atoms 𝓤) (mem : Mem
   reply-says v r = exE 𝓤 _ (λ ws. snd∗ 𝓤 (sem 𝓤 H A (lasts reply.ended tt (v, tt) ws)) (fact 𝓤 (r ≡ listedOf v)))
 
   record Known (𝓣 : Tables 𝓤 H) : Type 1 where
-    begin-known : Triple 𝓤 (𝓣 .C #lent-steps·seats·empty) Begin
-    take-known : Triple 𝓤 (𝓣 .C #lent-steps·seats·take) Take
-    perform-known : Triple 𝓤 (𝓣 .C #lent-steps·seats·found) Perform
-    give-known : Triple 𝓤 (𝓣 .C #lent-steps·seats·found-at) Give
+    begin-known : Triple 𝓤 (𝓣 .C #lent-port·seats·empty) Begin
+    take-known : Triple 𝓤 (𝓣 .C #lent-port·seats·take) Take
+    perform-known : Triple 𝓤 (𝓣 .C #lent-port·seats·found) Perform
+    give-known : Triple 𝓤 (𝓣 .C #lent-port·seats·found-at) Give
     reply-known : Triple 𝓤 (𝓣 .C #lent-port·answered) Reply
 
 module _ {M : Type 1} (𝓤 : URA M) (H : Heap 𝓤) (A : Atoms 𝓤) (W : Given 𝓤 H A) (mem′ : Memory → SProp 𝓤) (run : Routine → Fun 𝓤) (κ : Lft) (q : Share) (b o : ℕ) (γ : GName) (ys : List IdState) (port : ℕ) (port-fits : port < 2 ^ 16) where
@@ -433,9 +433,9 @@ find-spec 𝓤 H 𝓜 𝓖 𝓡 =
     entered 𝓤 H (tripleOf 𝓤 H (𝓖 .A) call.signature (call.spec 𝓤 H (𝓖 .A) (𝓜 .mem) (𝓡 .run)))
     (tables 𝓤 H 𝓜 𝓡 code.env .C) (tables 𝓤 H 𝓜 𝓡 code.env .Λ) #lent-port·find code.function (code.unfolded 𝓤 H 𝓜 𝓡)
     (meets 𝓤 H (𝓖 .A) (givenOf 𝓤 H 𝓜 𝓖) (𝓜 .mem) (𝓡 .run) (tablesOf 𝓤 H 𝓜 (tables 𝓤 H 𝓜 𝓡 code.env)) (record {
-      begin-known = cited 𝓤 H (Begin 𝓤 H (𝓖 .A) (𝓜 .mem) (𝓡 .run)) 𝓜 𝓡 code.env #lent-steps·seats·empty begin-def.routine code.calls-lent-port·seats·empty (begin-thm.met 𝓤 H 𝓜 𝓖 𝓡);
-      take-known = cited 𝓤 H (Take 𝓤 H (𝓖 .A) (𝓜 .mem) (𝓡 .run)) 𝓜 𝓡 code.env #lent-steps·seats·take take-def.routine code.calls-lent-port·seats·take (take-thm.met 𝓤 H 𝓜 𝓖 𝓡);
-      perform-known = cited 𝓤 H (Perform 𝓤 H (𝓖 .A) (𝓜 .mem) (𝓡 .run)) 𝓜 𝓡 code.env #lent-steps·seats·found perform-def.routine code.calls-lent-port·seats·found (perform-thm.met 𝓤 H 𝓜 𝓖 𝓡);
-      give-known = cited 𝓤 H (Give 𝓤 H (𝓖 .A) (𝓜 .mem) (𝓡 .run)) 𝓜 𝓡 code.env #lent-steps·seats·found-at give-def.routine code.calls-lent-port·seats·found-at (give-thm.met 𝓤 H 𝓜 𝓖 𝓡);
+      begin-known = cited 𝓤 H (Begin 𝓤 H (𝓖 .A) (𝓜 .mem) (𝓡 .run)) 𝓜 𝓡 code.env #lent-port·seats·empty begin-def.routine code.calls-lent-port·seats·empty (begin-thm.met 𝓤 H 𝓜 𝓖 𝓡);
+      take-known = cited 𝓤 H (Take 𝓤 H (𝓖 .A) (𝓜 .mem) (𝓡 .run)) 𝓜 𝓡 code.env #lent-port·seats·take take-def.routine code.calls-lent-port·seats·take (take-thm.met 𝓤 H 𝓜 𝓖 𝓡);
+      perform-known = cited 𝓤 H (Perform 𝓤 H (𝓖 .A) (𝓜 .mem) (𝓡 .run)) 𝓜 𝓡 code.env #lent-port·seats·found perform-def.routine code.calls-lent-port·seats·found (perform-thm.met 𝓤 H 𝓜 𝓖 𝓡);
+      give-known = cited 𝓤 H (Give 𝓤 H (𝓖 .A) (𝓜 .mem) (𝓡 .run)) 𝓜 𝓡 code.env #lent-port·seats·found-at give-def.routine code.calls-lent-port·seats·found-at (give-thm.met 𝓤 H 𝓜 𝓖 𝓡);
       reply-known = cited 𝓤 H (Reply 𝓤 H (𝓖 .A) (𝓜 .mem) (𝓡 .run)) 𝓜 𝓡 code.env #lent-port·answered reply-def.routine code.calls-lent-port·answered (reply-thm.met 𝓤 H 𝓜 𝓖 𝓡);
     }))

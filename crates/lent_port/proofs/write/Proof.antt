@@ -68,23 +68,23 @@ use Rattle.port_rules.proofs.Wrote as Rs
 use Rattle.port_rules.proofs.Wrote.Laws as Rs′
 use Rattle.lent_port.proofs.look.begin as begin
 use Rattle.lent_port.proofs.look.begin.Symbol as begin-def
-use Rattle.lent_port.proofs.look.begin.Symbol.{name as #lent-steps·look·begin}
+use Rattle.lent_port.proofs.look.begin.Symbol.{name as #lent-port·look·begin}
 use Rattle.lent_port.proofs.look.begin.Met as begin-thm
 use Rattle.lent_port.proofs.look.at as take
 use Rattle.lent_port.proofs.look.at.Symbol as take-def
-use Rattle.lent_port.proofs.look.at.Symbol.{name as #lent-steps·look·at}
+use Rattle.lent_port.proofs.look.at.Symbol.{name as #lent-port·look·at}
 use Rattle.lent_port.proofs.look.at.Met as take-thm
 use Rattle.lent_port.proofs.look.writing as perform
 use Rattle.lent_port.proofs.look.writing.Symbol as perform-def
-use Rattle.lent_port.proofs.look.writing.Symbol.{name as #lent-steps·look·writing}
+use Rattle.lent_port.proofs.look.writing.Symbol.{name as #lent-port·look·writing}
 use Rattle.lent_port.proofs.look.writing.Met as perform-thm
 use Rattle.lent_port.proofs.look.written as give
 use Rattle.lent_port.proofs.look.written.Symbol as give-def
-use Rattle.lent_port.proofs.look.written.Symbol.{name as #lent-steps·look·written}
+use Rattle.lent_port.proofs.look.written.Symbol.{name as #lent-port·look·written}
 use Rattle.lent_port.proofs.look.written.Met as give-thm
 use Rattle.lent_port.proofs.look.write_answer as reply
 use Rattle.lent_port.proofs.look.write_answer.Symbol as reply-def
-use Rattle.lent_port.proofs.look.write_answer.Symbol.{name as #lent-steps·look·write-answer}
+use Rattle.lent_port.proofs.look.write_answer.Symbol.{name as #lent-port·look·write-answer}
 use Rattle.lent_port.proofs.look.write_answer.Met as reply-thm
 use Rattle.lent_port.proofs.write.Key.{name as #lent-port·write}
 use Rattle.lent_port.proofs.write as call
@@ -142,11 +142,11 @@ module _ {M : Type 1} (𝓤 : URA M) (H : Heap 𝓤) (A : Atoms 𝓤) (mem : Mem
   reply-says v r = exE 𝓤 _ (λ ws. snd∗ 𝓤 (sem 𝓤 H A (lasts reply.ended tt (v, tt) ws)) (fact 𝓤 (wroteReply r ≡ replyOf v [])))
 
   record Known (𝓣 : Tables 𝓤 H) : Type 1 where
-    begin-known : Triple 𝓤 (𝓣 .C #lent-steps·look·begin) Begin
-    take-known : Triple 𝓤 (𝓣 .C #lent-steps·look·at) Take
-    perform-known : Triple 𝓤 (𝓣 .C #lent-steps·look·writing) Perform
-    give-known : Triple 𝓤 (𝓣 .C #lent-steps·look·written) Give
-    reply-known : Triple 𝓤 (𝓣 .C #lent-steps·look·write-answer) Reply
+    begin-known : Triple 𝓤 (𝓣 .C #lent-port·look·begin) Begin
+    take-known : Triple 𝓤 (𝓣 .C #lent-port·look·at) Take
+    perform-known : Triple 𝓤 (𝓣 .C #lent-port·look·writing) Perform
+    give-known : Triple 𝓤 (𝓣 .C #lent-port·look·written) Give
+    reply-known : Triple 𝓤 (𝓣 .C #lent-port·look·write-answer) Reply
 
 module _ {M : Type 1} (𝓤 : URA M) (H : Heap 𝓤) (A : Atoms 𝓤) (W : Given 𝓤 H A) (mem′ : Memory → SProp 𝓤) (run : Routine → Fun 𝓤) (κ : Lft) (q : Share) (b o : ℕ) (γ : GName) (ys : List IdState) (port byte : ℕ) (port-fits : port < 2 ^ 16) (byte-fits : byte < 2 ^ 8) where
   abbrev n : ℕ
@@ -438,9 +438,9 @@ write-spec 𝓤 H 𝓜 𝓖 𝓡 =
     entered 𝓤 H (tripleOf 𝓤 H (𝓖 .A) call.signature (call.spec 𝓤 H (𝓖 .A) (𝓜 .mem) (𝓡 .run)))
     (tables 𝓤 H 𝓜 𝓡 code.env .C) (tables 𝓤 H 𝓜 𝓡 code.env .Λ) #lent-port·write code.function (code.unfolded 𝓤 H 𝓜 𝓡)
     (meets 𝓤 H (𝓖 .A) (givenOf 𝓤 H 𝓜 𝓖) (𝓜 .mem) (𝓡 .run) (tablesOf 𝓤 H 𝓜 (tables 𝓤 H 𝓜 𝓡 code.env)) (record {
-      begin-known = cited 𝓤 H (Begin 𝓤 H (𝓖 .A) (𝓜 .mem) (𝓡 .run)) 𝓜 𝓡 code.env #lent-steps·look·begin begin-def.routine code.calls-lent-port·look·begin (begin-thm.met 𝓤 H 𝓜 𝓖 𝓡);
-      take-known = cited 𝓤 H (Take 𝓤 H (𝓖 .A) (𝓜 .mem) (𝓡 .run)) 𝓜 𝓡 code.env #lent-steps·look·at take-def.routine code.calls-lent-port·look·at (take-thm.met 𝓤 H 𝓜 𝓖 𝓡);
-      perform-known = cited 𝓤 H (Perform 𝓤 H (𝓖 .A) (𝓜 .mem) (𝓡 .run)) 𝓜 𝓡 code.env #lent-steps·look·writing perform-def.routine code.calls-lent-port·look·writing (perform-thm.met 𝓤 H 𝓜 𝓖 𝓡);
-      give-known = cited 𝓤 H (Give 𝓤 H (𝓖 .A) (𝓜 .mem) (𝓡 .run)) 𝓜 𝓡 code.env #lent-steps·look·written give-def.routine code.calls-lent-port·look·written (give-thm.met 𝓤 H 𝓜 𝓖 𝓡);
-      reply-known = cited 𝓤 H (Reply 𝓤 H (𝓖 .A) (𝓜 .mem) (𝓡 .run)) 𝓜 𝓡 code.env #lent-steps·look·write-answer reply-def.routine code.calls-lent-port·look·write-answer (reply-thm.met 𝓤 H 𝓜 𝓖 𝓡);
+      begin-known = cited 𝓤 H (Begin 𝓤 H (𝓖 .A) (𝓜 .mem) (𝓡 .run)) 𝓜 𝓡 code.env #lent-port·look·begin begin-def.routine code.calls-lent-port·look·begin (begin-thm.met 𝓤 H 𝓜 𝓖 𝓡);
+      take-known = cited 𝓤 H (Take 𝓤 H (𝓖 .A) (𝓜 .mem) (𝓡 .run)) 𝓜 𝓡 code.env #lent-port·look·at take-def.routine code.calls-lent-port·look·at (take-thm.met 𝓤 H 𝓜 𝓖 𝓡);
+      perform-known = cited 𝓤 H (Perform 𝓤 H (𝓖 .A) (𝓜 .mem) (𝓡 .run)) 𝓜 𝓡 code.env #lent-port·look·writing perform-def.routine code.calls-lent-port·look·writing (perform-thm.met 𝓤 H 𝓜 𝓖 𝓡);
+      give-known = cited 𝓤 H (Give 𝓤 H (𝓖 .A) (𝓜 .mem) (𝓡 .run)) 𝓜 𝓡 code.env #lent-port·look·written give-def.routine code.calls-lent-port·look·written (give-thm.met 𝓤 H 𝓜 𝓖 𝓡);
+      reply-known = cited 𝓤 H (Reply 𝓤 H (𝓖 .A) (𝓜 .mem) (𝓡 .run)) 𝓜 𝓡 code.env #lent-port·look·write-answer reply-def.routine code.calls-lent-port·look·write-answer (reply-thm.met 𝓤 H 𝓜 𝓖 𝓡);
     }))

@@ -1,5 +1,5 @@
--- `queue::put_word` meets its contract: each of its six ways is one of the definition's. Assumes nothing.
-use mathlib.Core.Path.{_≡_, sym, _∙_}
+-- `queue::put_word` meets its contract: each of its five ways is one of the definition's. Assumes nothing.
+use mathlib.Core.Path.{_≡_, sym}
 use Prim.Native.Nat.{_≤_, _<_, _+_, _*_}
 use native.Mathlib.Omega.{arith}
 use borrow.Author.Needs.{needs}
@@ -7,7 +7,7 @@ use Rattle.store.specs.Store.{roomOf, part}
 use Rattle.transmit_rules.specs.Queue.{free}
 use Rattle.transmit_rules.specs.QueueView.{queueOf}
 use Rattle.transmit_rules.proofs.Facts.{Facts, facts, free-of, words-of}
-use Rattle.transmit_rules.proofs.Put.{put-stays, put-full, put-bad, put-more, turns-same, opens, seconds}
+use Rattle.transmit_rules.proofs.Put.{put-stays, put-full, put-more, turns-same, seconds}
 use Rattle.queue.proofs.put_word.Statement.{statement}
 use Rattle.queue.proofs.put_word.Tie as tie
 
@@ -43,36 +43,33 @@ returns-2 c =
     turns-same (s .size) (record { failed = _; packets = s .f .packets; words = s .f .words }) (s .ram .now) (s .dir .now) _ (c .before .before .before .before .before .before .pre .packed)
     (sym (put-full (s .size) (s .v) (queueOf (s .size) (s .f) (s .ram .now) (s .dir .now)) (c .before .before .before .if1 .left) (none (c .before .before .before .before .before .before) _ (c .before .used .ensures) (c .if2 .taken))))
 
-slice-write-dir : tie.Need-slice-write-dir
-slice-write-dir c = omega (arith, known (c .before .before .before .before .before .before .before .before) .place, c .before .before .before .before .before .before .before .before .pre .packed .in-dir)
+put-first-requires : tie.Need-put-first-requires
+put-first-requires c κs =
+    let o = c .before .before .before .before .before .before .before .before .before in
+    (o .pre, c .before .before .before .before .before .before .if1 .left, c .before .before .if3 .taken, left o _ (c .before .before .before .before .used .ensures) (c .before .before .before .if2 .left))
 
 returns-3 : tie.Need-returns-3
-returns-3 c =
-    let s = c .before .before .before .before .before .before .before .before .args in
-    opens (s .size) (s .v) (s .f) (s .ram .now) (s .dir .now) (c .before .before .before .before .before .before .before .before .pre) (c .before .before .before .before .before .if1 .left) (left (c .before .before .before .before .before .before .before .before) _ (c .before .before .before .used .ensures) (c .before .before .if2 .left)) (c .before .if3 .taken) (c .if4 .taken)
+returns-3 c = c .before .before .put-first .ensures
 
 returns-4 : tie.Need-returns-4
 returns-4 c =
     let s = c .before .before .before .before .before .before .before .before .args in
-    let q = queueOf (s .size) (s .f) (s .ram .now) (s .dir .now) in
-    turns-same (s .size) (record { failed = _; packets = s .f .packets; words = 0 }) (s .ram .now) (s .dir .now) _ (c .before .before .before .before .before .before .before .before .pre .packed)
-    (rw (← (c .before .if3 .taken)) (sym (put-bad (s .size) (s .v) q (c .before .before .before .before .before .if1 .left) (left (c .before .before .before .before .before .before .before .before) _ (c .before .before .before .used .ensures) (c .before .before .if2 .left)) (words-of (s .size) (s .f .packets) (s .f .words) (s .ram .now) (s .dir .now) ∙ c .before .if3 .taken) (c .if4 .left))))
-
-returns-5 : tie.Need-returns-5
-returns-5 c =
-    let s = c .before .before .before .before .before .before .before .before .args in
-    seconds (s .size) (s .v) (s .f) (s .ram .now) (s .dir .now) (c .before .before .before .before .before .before .before .before .pre) (c .before .before .before .before .before .if1 .left) (left (c .before .before .before .before .before .before .before .before) _ (c .before .before .before .used .ensures) (c .before .before .if2 .left)) (c .if5 .taken)
+    seconds (s .size) (s .v) (s .f) (s .ram .now) (s .dir .now) (c .before .before .before .before .before .before .before .before .pre) (c .before .before .before .before .before .if1 .left) (left (c .before .before .before .before .before .before .before .before) _ (c .before .before .before .used .ensures) (c .before .before .if2 .left)) (c .if4 .taken)
 
 put-data-requires : tie.Need-put-data-requires
 put-data-requires c κs =
-    ((c .before .before .before .before .before .before .before .before .before .before .pre, omega (arith, c .before .before .before .if3 .left, c .before .before .if5 .left), left (c .before .before .before .before .before .before .before .before .before .before) _ (c .before .before .before .before .before .used .ensures) (c .before .before .before .before .if2 .left)), omega (arith, c .before .before .before .before .before .used .ensures))
+    ((c .before .before .before .before .before .before .before .before .before .before .pre, omega (arith, c .before .before .before .if3 .left, c .before .before .if4 .left), left (c .before .before .before .before .before .before .before .before .before .before) _ (c .before .before .before .before .before .used .ensures) (c .before .before .before .before .if2 .left)), omega (arith, c .before .before .before .before .before .used .ensures))
 
-returns-6 : tie.Need-returns-6
-returns-6 c =
+returns-5 : tie.Need-returns-5
+returns-5 c =
     let s = c .before .before .before .before .before .before .before .before .before .before .before .before .before .args in
     let q = queueOf (s .size) (s .f) (s .ram .now) (s .dir .now) in
-    let more : 2 ≤ q .part .words = omega (arith, words-of (s .size) (s .f .packets) (s .f .words) (s .ram .now) (s .dir .now), c .before .before .before .before .before .before .if3 .left, c .before .before .before .before .before .if5 .left) in
+    let more : 2 ≤ q .part .words = omega (arith, words-of (s .size) (s .f .packets) (s .f .words) (s .ram .now) (s .dir .now), c .before .before .before .before .before .before .if3 .left, c .before .before .before .before .before .if4 .left) in
     rw (put-more (s .size) (s .v) q (c .before .before .before .before .before .before .before .before .before .before .if1 .left) (left (c .before .before .before .before .before .before .before .before .before .before .before .before .before) _ (c .before .before .before .before .before .before .before .before .used .ensures) (c .before .before .before .before .before .before .before .if2 .left)) more) (c .before .before .put-data .ensures)
 
 pub put-word-spec : {M : Type 1} → statement M
-put-word-spec = tie.close (tie.spec returns (λ c κs. search needs) (λ c. search needs) (λ c. search needs) mul-if2-2 add-if2-2 add-if2-3 (λ c. search needs) returns-2 (λ c. search needs) (λ c. search needs) slice-write-dir (λ c. search needs) returns-3 (λ c. search needs) returns-4 (λ c. search needs) returns-5 (λ c. search needs) (λ c. search needs) (λ c. search needs) (λ c. search needs) (λ c. search needs) put-data-requires (λ c. search needs) (λ c. search needs) returns-6)
+put-word-spec =
+    tie.close
+    (tie.spec returns (λ c κs. search needs) (λ c. search needs) (λ c. search needs) mul-if2-2 add-if2-2 add-if2-3 (λ c. search needs) returns-2
+    put-first-requires (λ c. search needs) (λ c. search needs) returns-3 (λ c. search needs) returns-4 (λ c. search needs) (λ c. search needs)
+    (λ c. search needs) (λ c. search needs) (λ c. search needs) put-data-requires (λ c. search needs) (λ c. search needs) returns-5)

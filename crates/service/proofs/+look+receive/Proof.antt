@@ -1,12 +1,24 @@
 -- `service::look` and `service::receive`: each way through `look` and `receive` is a law of Ways; the accesses left fall at each call. Assumes nothing.
-use mathlib.Core.Path.{refl, sym, _∙_}
+use mathlib.Core.Path.{_≡_, refl, sym, subst⁻¹, _∙_}
+use mathlib.Core.Bool.{Bool, false}
+use mathlib.Core.List.{List, [], _∷_}
+use Prim.Native.Nat.{ℕ, suc, _+_, _-_, _<_}
 use native.Mathlib.Omega.{arith}
-use borrow.Author.Tests.{eq-eqb, ne-eqb}
+use lib.ListN.{length}
+use Rattle.card_rules.specs.Adapter.{Adapter}
+use Rattle.card_rules.specs.Access.{ReadWord, step, access}
+use Rattle.driver_rules.specs.declared.Driver.{Driver}
+use Rattle.driver_rules.specs.declared.Served.{Served}
+use Rattle.driver_rules.specs.Registers.{unfit, txComplete, rxComplete}
+use Rattle.driver_rules.specs.Talk.{extended, run}
+use Rattle.driver_rules.specs.Items.{idleTalk}
+use Rattle.driver_rules.specs.Meets.{Ended, Tells}
+use Rattle.driver_rules.specs.Service.{lookTalk}
+use Rattle.driver_rules.specs.Serves.{Meets}
 use Rattle.driver_rules.proofs.Runs.{gave, wrote, ram-kept, dir-kept}
 use Rattle.driver_rules.proofs.ServiceWays as ways
 use Rattle.driver_rules.proofs.Unmoved as unmoved
 use borrow.Author.Needs.{needs}
-use Prim.Native.Nat.{ℕ, _+_, _-_, _<_}
 use borrow.Fn.Kinds.{In}
 use borrow.Fn.PlainCycle.{Measures, is, falls, and}
 use Rattle.service.proofs.look.Reads as look
@@ -15,16 +27,34 @@ use Rattle.service.proofs.+look+receive.Lts-look as look-lts
 use Rattle.service.proofs.receive.Reads as receive
 use Rattle.service.proofs.receive.Kinds as receive-kinds
 use Rattle.service.proofs.+look+receive.Lts-receive as receive-lts
+use Rattle.items.proofs.telling.short.Reads as short-reads
+use Rattle.items.proofs.telling.ended.Reads as ended-reads
+use Rattle.items.proofs.idling.idle.Reads as idle-reads
+use Rattle.items.proofs.fetching.discard.Reads as discard-reads
 use Rattle.items.proofs.fetching.fetch.Reads as fetch-reads
 use Rattle.items.proofs.reporting.report.Reads as report-reads
 use Rattle.items.proofs.tests.is_bad.Reads as is-bad-reads
 use Rattle.steps.proofs.read_word.Reads as read-word-reads
-use Rattle.steps.proofs.write_word.Reads as write-word-reads
 use Rattle.items.proofs.tests.is_unfit.Reads as is-unfit-reads
 use Rattle.items.proofs.tests.is_tx_complete.Reads as is-tx-reads
 use Rattle.items.proofs.tests.is_rx_complete.Reads as is-rx-reads
 use Rattle.service.proofs.+look+receive.{statement}
 use Rattle.service.proofs.+look+receive.Tie.{close}
+
+-- an access more was made
+one-more : (n k left : ℕ) → (left ≡ 0 → ⊥) → n + k ≡ left - 1 → suc n + k ≡ left
+one-more n k left some e = omega arith
+
+-- neither TX Complete nor RX Complete: the look ends as idle does, an access later
+idle-after : (left : ℕ) (d : Driver) (s : Adapter) (l f : List ℕ) → (left ≡ 0 → ⊥) → (s₁ : Adapter) (v : ℕ) → access (ReadWord 14) s ≡ step v s₁
+    → unfit v ≡ false → txComplete v ≡ false → rxComplete v ≡ false → (r : Served) (s′ : Adapter) → Tells (left - 1) (run (idleTalk (left - 1) d) s₁) r s′
+    → Meets (r .paused) left (run (lookTalk left d) s) r s′ l f l f
+unfolding Meets
+idle-after left d s l f some s₁ v e₁ w t x r s′ m =
+    let q : Ended (left - 1) (run (idleTalk (left - 1) d) s₁) r s′ l f l f = m l f in
+    rw (ways.looks-idle d s s₁ v left some e₁ w t x)
+    (subst⁻¹ (λ (b : Bool). Meets b left (extended (ReadWord 14 ∷ []) (run (idleTalk (left - 1) d) s₁)) r s′ l f l f) (q .ended)
+    (record { answer = q .answer; driver = q .driver; count = one-more _ _ left some (q .count); adapter = q .adapter; look = q .look; frame = q .frame; ended = q .ended }))
 
 abbrev μ-look : Measures 4 look-kinds.ps ℕ
 μ-look κs a = a .1 .1 .1 .1 .1 .1 .0
@@ -44,185 +74,194 @@ receive-at t = and 4 receive-kinds.ps (is 4 receive-kinds.ps μ-receive t) recei
 abbrev receive-below : ℕ → In 4 receive-kinds.ps
 receive-below t = and 4 receive-kinds.ps (falls 4 receive-kinds.ps _<_ μ-receive t) receive.Pre
 
-look-returns : (t : ℕ) → look-lts.Need-returns (read-word-reads.Asked, read-word-reads.Learnt, is-unfit-reads.Asked, is-unfit-reads.Learnt, is-tx-reads.Asked, is-tx-reads.Learnt, report-reads.Asked, report-reads.Learnt, is-rx-reads.Asked, is-rx-reads.Learnt, receive-below t, receive.Post, write-word-reads.Asked, write-word-reads.Learnt) (look-at t) look.Post
-look-returns t c = (ways.look-none (c .before .before .before .before .before .args .left) _ _ _ _ _ (c .if1 .taken), (c .before .before .before .before .before .pre .1 .sound, unmoved.look-none (c .before .before .before .before .before .args .left) _ _ _ _ _ _ _ _ (c .if1 .taken)))
+-- what each call asks and tells, with t accesses left
+abbrev look-calls : ℕ → look-lts.Claims
+look-calls t = (short-reads.Asked, short-reads.Learnt, read-word-reads.Asked, read-word-reads.Learnt, is-unfit-reads.Asked, is-unfit-reads.Learnt, ended-reads.Asked, ended-reads.Learnt, is-tx-reads.Asked, is-tx-reads.Learnt, report-reads.Asked, report-reads.Learnt, is-rx-reads.Asked, is-rx-reads.Learnt, receive-below t, receive.Post, idle-reads.Asked, idle-reads.Learnt)
 
-look-read-word-requires : (t : ℕ) → look-lts.Need-read-word-requires (read-word-reads.Asked, read-word-reads.Learnt, is-unfit-reads.Asked, is-unfit-reads.Learnt, is-tx-reads.Asked, is-tx-reads.Learnt, report-reads.Asked, report-reads.Learnt, is-rx-reads.Asked, is-rx-reads.Learnt, receive-below t, receive.Post, write-word-reads.Asked, write-word-reads.Learnt) (look-at t) look.Post
+abbrev receive-calls : ℕ → receive-lts.Claims
+receive-calls t = (short-reads.Asked, short-reads.Learnt, read-word-reads.Asked, read-word-reads.Learnt, is-bad-reads.Asked, is-bad-reads.Learnt, discard-reads.Asked, discard-reads.Learnt, look-below t, look.Post, fetch-reads.Asked, fetch-reads.Learnt)
+
+look-short-requires : (t : ℕ) → look-lts.Need-short-requires (look-calls t) (look-at t) look.Post
+look-short-requires t c κs = search needs
+
+look-returns : (t : ℕ) → look-lts.Need-returns (look-calls t) (look-at t) look.Post
+look-returns t c = rw (c .short .ensures) (ways.look-none (c .before .before .before .before .before .before .args .left) _ _ _ _ _ (c .before .if1 .taken), (c .before .before .before .before .before .before .pre .1 .sound, unmoved.look-none (c .before .before .before .before .before .before .args .left) _ _ _ _ _ _ _ _ (c .before .if1 .taken)))
+
+look-read-word-requires : (t : ℕ) → look-lts.Need-read-word-requires (look-calls t) (look-at t) look.Post
 look-read-word-requires t c κs = (c .before .before .before .before .before .before .before .pre .1 .sound, refl)
 
-look-is-unfit-requires : (t : ℕ) → look-lts.Need-is-unfit-requires (read-word-reads.Asked, read-word-reads.Learnt, is-unfit-reads.Asked, is-unfit-reads.Learnt, is-tx-reads.Asked, is-tx-reads.Learnt, report-reads.Asked, report-reads.Learnt, is-rx-reads.Asked, is-rx-reads.Learnt, receive-below t, receive.Post, write-word-reads.Asked, write-word-reads.Learnt) (look-at t) look.Post
+look-is-unfit-requires : (t : ℕ) → look-lts.Need-is-unfit-requires (look-calls t) (look-at t) look.Post
 look-is-unfit-requires t c κs = search needs
 
-look-sub-t23 : (t : ℕ) → look-lts.Need-sub-t23 (read-word-reads.Asked, read-word-reads.Learnt, is-unfit-reads.Asked, is-unfit-reads.Learnt, is-tx-reads.Asked, is-tx-reads.Learnt, report-reads.Asked, report-reads.Learnt, is-rx-reads.Asked, is-rx-reads.Learnt, receive-below t, receive.Post, write-word-reads.Asked, write-word-reads.Learnt) (look-at t) look.Post
-look-sub-t23 t c = omega (arith, c .before .before .before .before .before .before .if1 .left)
+look-sub-ended : (t : ℕ) → look-lts.Need-sub-ended (look-calls t) (look-at t) look.Post
+look-sub-ended t c = omega (arith, c .before .before .before .before .before .before .if1 .left)
 
-look-same-length : (t : ℕ) → look-lts.Need-same-length (read-word-reads.Asked, read-word-reads.Learnt, is-unfit-reads.Asked, is-unfit-reads.Learnt, is-tx-reads.Asked, is-tx-reads.Learnt, report-reads.Asked, report-reads.Learnt, is-rx-reads.Asked, is-rx-reads.Learnt, receive-below t, receive.Post, write-word-reads.Asked, write-word-reads.Learnt) (look-at t) look.Post
-look-same-length t c = ram-kept (c .before .before .before .read-word .ensures .stands .sound) (c .before .before .before .before .before .before .before .before .before .before .before .pre .1 .sound)
+look-ended-requires : (t : ℕ) → look-lts.Need-ended-requires (look-calls t) (look-at t) look.Post
+look-ended-requires t c κs = search needs
 
-look-same-length-2 : (t : ℕ) → look-lts.Need-same-length-2 (read-word-reads.Asked, read-word-reads.Learnt, is-unfit-reads.Asked, is-unfit-reads.Learnt, is-tx-reads.Asked, is-tx-reads.Learnt, report-reads.Asked, report-reads.Learnt, is-rx-reads.Asked, is-rx-reads.Learnt, receive-below t, receive.Post, write-word-reads.Asked, write-word-reads.Learnt) (look-at t) look.Post
-look-same-length-2 t c = dir-kept (c .before .before .before .read-word .ensures .stands .sound) (c .before .before .before .before .before .before .before .before .before .before .before .pre .1 .sound)
+look-same-length : (t : ℕ) → look-lts.Need-same-length (look-calls t) (look-at t) look.Post
+look-same-length t c = ram-kept (c .before .before .before .before .read-word .ensures .stands .sound) (c .before .before .before .before .before .before .before .before .before .before .before .before .pre .1 .sound)
 
-look-returns-2 : (t : ℕ) → look-lts.Need-returns-2 (read-word-reads.Asked, read-word-reads.Learnt, is-unfit-reads.Asked, is-unfit-reads.Learnt, is-tx-reads.Asked, is-tx-reads.Learnt, report-reads.Asked, report-reads.Learnt, is-rx-reads.Asked, is-rx-reads.Learnt, receive-below t, receive.Post, write-word-reads.Asked, write-word-reads.Learnt) (look-at t) look.Post
-look-returns-2 t c = (ways.look-unfit (c .before .before .before .before .before .before .before .before .before .before .before .args .left) _ _ _ _ (c .before .before .before .before .before .before .if1 .left) _ _ (unmoved.as-came _ _ _ (c .before .before .before .before .before .before .before .before .before .before .before .pre .1 .sound) (c .before .before .before .read-word .ensures)) _ (sym (c .before .is-unfit .ensures) ∙ c .if2 .taken), (c .before .before .before .before .before .before .before .before .before .before .before .pre .1 .sound, unmoved.look-unfit _ _ _ _))
+look-same-length-2 : (t : ℕ) → look-lts.Need-same-length-2 (look-calls t) (look-at t) look.Post
+look-same-length-2 t c = dir-kept (c .before .before .before .before .read-word .ensures .stands .sound) (c .before .before .before .before .before .before .before .before .before .before .before .before .pre .1 .sound)
 
-look-is-tx-complete-requires : (t : ℕ) → look-lts.Need-is-tx-complete-requires (read-word-reads.Asked, read-word-reads.Learnt, is-unfit-reads.Asked, is-unfit-reads.Learnt, is-tx-reads.Asked, is-tx-reads.Learnt, report-reads.Asked, report-reads.Learnt, is-rx-reads.Asked, is-rx-reads.Learnt, receive-below t, receive.Post, write-word-reads.Asked, write-word-reads.Learnt) (look-at t) look.Post
+look-returns-2 : (t : ℕ) → look-lts.Need-returns-2 (look-calls t) (look-at t) look.Post
+look-returns-2 t c = rw (c .ended .ensures) (ways.look-unfit (c .before .before .before .before .before .before .before .before .before .before .before .before .args .left) _ _ _ _ (c .before .before .before .before .before .before .before .if1 .left) _ _ (unmoved.as-came _ _ _ (c .before .before .before .before .before .before .before .before .before .before .before .before .pre .1 .sound) (c .before .before .before .before .read-word .ensures)) _ (sym (c .before .before .is-unfit .ensures) ∙ c .before .if2 .taken), (c .before .before .before .before .before .before .before .before .before .before .before .before .pre .1 .sound, unmoved.look-unfit _ _ _ _))
+
+look-is-tx-complete-requires : (t : ℕ) → look-lts.Need-is-tx-complete-requires (look-calls t) (look-at t) look.Post
 look-is-tx-complete-requires t c κs = search needs
 
-look-sub-report : (t : ℕ) → look-lts.Need-sub-report (read-word-reads.Asked, read-word-reads.Learnt, is-unfit-reads.Asked, is-unfit-reads.Learnt, is-tx-reads.Asked, is-tx-reads.Learnt, report-reads.Asked, report-reads.Learnt, is-rx-reads.Asked, is-rx-reads.Learnt, receive-below t, receive.Post, write-word-reads.Asked, write-word-reads.Learnt) (look-at t) look.Post
+look-sub-report : (t : ℕ) → look-lts.Need-sub-report (look-calls t) (look-at t) look.Post
 look-sub-report t c = omega (arith, c .before .before .before .before .before .before .before .before .before .before .if1 .left)
 
-look-report-requires : (t : ℕ) → look-lts.Need-report-requires (read-word-reads.Asked, read-word-reads.Learnt, is-unfit-reads.Asked, is-unfit-reads.Learnt, is-tx-reads.Asked, is-tx-reads.Learnt, report-reads.Asked, report-reads.Learnt, is-rx-reads.Asked, is-rx-reads.Learnt, receive-below t, receive.Post, write-word-reads.Asked, write-word-reads.Learnt) (look-at t) look.Post
+look-report-requires : (t : ℕ) → look-lts.Need-report-requires (look-calls t) (look-at t) look.Post
 look-report-requires t c κs = c .before .before .before .before .before .before .before .read-word .ensures .stands .sound
 
-look-same-length-3 : (t : ℕ) → look-lts.Need-same-length-3 (read-word-reads.Asked, read-word-reads.Learnt, is-unfit-reads.Asked, is-unfit-reads.Learnt, is-tx-reads.Asked, is-tx-reads.Learnt, report-reads.Asked, report-reads.Learnt, is-rx-reads.Asked, is-rx-reads.Learnt, receive-below t, receive.Post, write-word-reads.Asked, write-word-reads.Learnt) (look-at t) look.Post
+look-same-length-3 : (t : ℕ) → look-lts.Need-same-length-3 (look-calls t) (look-at t) look.Post
 look-same-length-3 t c = ram-kept (c .before .before .before .before .report .ensures .1) (c .before .before .before .before .before .before .before .before .before .before .before .before .before .before .before .before .before .before .before .before .pre .1 .sound)
 
-look-same-length-4 : (t : ℕ) → look-lts.Need-same-length-4 (read-word-reads.Asked, read-word-reads.Learnt, is-unfit-reads.Asked, is-unfit-reads.Learnt, is-tx-reads.Asked, is-tx-reads.Learnt, report-reads.Asked, report-reads.Learnt, is-rx-reads.Asked, is-rx-reads.Learnt, receive-below t, receive.Post, write-word-reads.Asked, write-word-reads.Learnt) (look-at t) look.Post
+look-same-length-4 : (t : ℕ) → look-lts.Need-same-length-4 (look-calls t) (look-at t) look.Post
 look-same-length-4 t c = dir-kept (c .before .before .before .before .report .ensures .1) (c .before .before .before .before .before .before .before .before .before .before .before .before .before .before .before .before .before .before .before .before .pre .1 .sound)
 
-look-returns-3 : (t : ℕ) → look-lts.Need-returns-3 (read-word-reads.Asked, read-word-reads.Learnt, is-unfit-reads.Asked, is-unfit-reads.Learnt, is-tx-reads.Asked, is-tx-reads.Learnt, report-reads.Asked, report-reads.Learnt, is-rx-reads.Asked, is-rx-reads.Learnt, receive-below t, receive.Post, write-word-reads.Asked, write-word-reads.Learnt) (look-at t) look.Post
+look-returns-3 : (t : ℕ) → look-lts.Need-returns-3 (look-calls t) (look-at t) look.Post
 look-returns-3 t c = (ways.look-report (c .before .before .before .before .before .before .before .before .before .before .before .before .before .before .before .before .before .before .before .before .args .left) _ _ _ _ (c .before .before .before .before .before .before .before .before .before .before .before .before .before .before .before .if1 .left) _ _ (gave (c .before .before .before .before .before .before .before .before .before .before .before .before .read-word .ensures)) (sym (c .before .before .before .before .before .before .before .before .before .before .is-unfit .ensures) ∙ c .before .before .before .before .before .before .before .before .before .if2 .left) _ _ (sym (c .before .before .before .before .before .before .before .before .is-tx-complete .ensures) ∙ c .before .before .before .before .before .before .before .if3 .taken) (c .before .before .before .before .report .ensures .0), (c .before .before .before .before .report .ensures .1, unmoved.look-report (c .before .before .before .before .before .before .before .before .before .before .before .before .before .before .before .before .before .before .before .before .args .left) _ _ _ _ _ _ _ _ (c .before .before .before .before .before .before .before .before .before .before .before .before .before .before .before .if1 .left) _ _ (gave (c .before .before .before .before .before .before .before .before .before .before .before .before .read-word .ensures)) (sym (c .before .before .before .before .before .before .before .before .before .before .is-unfit .ensures) ∙ c .before .before .before .before .before .before .before .before .before .if2 .left) (sym (c .before .before .before .before .before .before .before .before .is-tx-complete .ensures) ∙ c .before .before .before .before .before .before .before .if3 .taken)))
 
-look-is-rx-complete-requires : (t : ℕ) → look-lts.Need-is-rx-complete-requires (read-word-reads.Asked, read-word-reads.Learnt, is-unfit-reads.Asked, is-unfit-reads.Learnt, is-tx-reads.Asked, is-tx-reads.Learnt, report-reads.Asked, report-reads.Learnt, is-rx-reads.Asked, is-rx-reads.Learnt, receive-below t, receive.Post, write-word-reads.Asked, write-word-reads.Learnt) (look-at t) look.Post
+look-is-rx-complete-requires : (t : ℕ) → look-lts.Need-is-rx-complete-requires (look-calls t) (look-at t) look.Post
 look-is-rx-complete-requires t c κs = search needs
 
-look-sub-receive : (t : ℕ) → look-lts.Need-sub-receive (read-word-reads.Asked, read-word-reads.Learnt, is-unfit-reads.Asked, is-unfit-reads.Learnt, is-tx-reads.Asked, is-tx-reads.Learnt, report-reads.Asked, report-reads.Learnt, is-rx-reads.Asked, is-rx-reads.Learnt, receive-below t, receive.Post, write-word-reads.Asked, write-word-reads.Learnt) (look-at t) look.Post
+look-sub-receive : (t : ℕ) → look-lts.Need-sub-receive (look-calls t) (look-at t) look.Post
 look-sub-receive t c = omega (arith, c .before .before .before .before .before .before .before .before .before .before .before .before .before .before .if1 .left)
 
-look-receive-requires : (t : ℕ) → look-lts.Need-receive-requires (read-word-reads.Asked, read-word-reads.Learnt, is-unfit-reads.Asked, is-unfit-reads.Learnt, is-tx-reads.Asked, is-tx-reads.Learnt, report-reads.Asked, report-reads.Learnt, is-rx-reads.Asked, is-rx-reads.Learnt, receive-below t, receive.Post, write-word-reads.Asked, write-word-reads.Learnt) (look-at t) look.Post
+look-receive-requires : (t : ℕ) → look-lts.Need-receive-requires (look-calls t) (look-at t) look.Post
 look-receive-requires t c κs = (omega (arith, c .before .before .before .before .before .before .before .before .before .before .before .before .before .before .before .before .before .before .before .pre .0, c .before .before .before .before .before .before .before .before .before .before .before .before .before .before .if1 .left), record { sound = c .before .before .before .before .before .before .before .before .before .before .before .read-word .ensures .stands .sound; look = c .before .before .before .before .before .before .before .before .before .before .before .before .before .before .before .before .before .before .before .pre .1 .look; frame = c .before .before .before .before .before .before .before .before .before .before .before .before .before .before .before .before .before .before .before .pre .1 .frame })
 
-look-same-length-5 : (t : ℕ) → look-lts.Need-same-length-5 (read-word-reads.Asked, read-word-reads.Learnt, is-unfit-reads.Asked, is-unfit-reads.Learnt, is-tx-reads.Asked, is-tx-reads.Learnt, report-reads.Asked, report-reads.Learnt, is-rx-reads.Asked, is-rx-reads.Learnt, receive-below t, receive.Post, write-word-reads.Asked, write-word-reads.Learnt) (look-at t) look.Post
+look-same-length-5 : (t : ℕ) → look-lts.Need-same-length-5 (look-calls t) (look-at t) look.Post
 look-same-length-5 t c = ram-kept (c .before .before .before .before .before .before .before .before .receive .ensures .1) (c .before .before .before .before .before .before .before .before .before .before .before .before .before .before .before .before .before .before .before .before .before .before .before .before .before .before .before .before .pre .1 .sound)
 
-look-same-length-6 : (t : ℕ) → look-lts.Need-same-length-6 (read-word-reads.Asked, read-word-reads.Learnt, is-unfit-reads.Asked, is-unfit-reads.Learnt, is-tx-reads.Asked, is-tx-reads.Learnt, report-reads.Asked, report-reads.Learnt, is-rx-reads.Asked, is-rx-reads.Learnt, receive-below t, receive.Post, write-word-reads.Asked, write-word-reads.Learnt) (look-at t) look.Post
+look-same-length-6 : (t : ℕ) → look-lts.Need-same-length-6 (look-calls t) (look-at t) look.Post
 look-same-length-6 t c = dir-kept (c .before .before .before .before .before .before .before .before .receive .ensures .1) (c .before .before .before .before .before .before .before .before .before .before .before .before .before .before .before .before .before .before .before .before .before .before .before .before .before .before .before .before .pre .1 .sound)
 
-look-same-length-7 : (t : ℕ) → look-lts.Need-same-length-7 (read-word-reads.Asked, read-word-reads.Learnt, is-unfit-reads.Asked, is-unfit-reads.Learnt, is-tx-reads.Asked, is-tx-reads.Learnt, report-reads.Asked, report-reads.Learnt, is-rx-reads.Asked, is-rx-reads.Learnt, receive-below t, receive.Post, write-word-reads.Asked, write-word-reads.Learnt) (look-at t) look.Post
+look-same-length-7 : (t : ℕ) → look-lts.Need-same-length-7 (look-calls t) (look-at t) look.Post
 look-same-length-7 t c = search needs
 
-look-same-length-8 : (t : ℕ) → look-lts.Need-same-length-8 (read-word-reads.Asked, read-word-reads.Learnt, is-unfit-reads.Asked, is-unfit-reads.Learnt, is-tx-reads.Asked, is-tx-reads.Learnt, report-reads.Asked, report-reads.Learnt, is-rx-reads.Asked, is-rx-reads.Learnt, receive-below t, receive.Post, write-word-reads.Asked, write-word-reads.Learnt) (look-at t) look.Post
+look-same-length-8 : (t : ℕ) → look-lts.Need-same-length-8 (look-calls t) (look-at t) look.Post
 look-same-length-8 t c = search needs
 
-look-returns-4 : (t : ℕ) → look-lts.Need-returns-4 (read-word-reads.Asked, read-word-reads.Learnt, is-unfit-reads.Asked, is-unfit-reads.Learnt, is-tx-reads.Asked, is-tx-reads.Learnt, report-reads.Asked, report-reads.Learnt, is-rx-reads.Asked, is-rx-reads.Learnt, receive-below t, receive.Post, write-word-reads.Asked, write-word-reads.Learnt) (look-at t) look.Post
+look-returns-4 : (t : ℕ) → look-lts.Need-returns-4 (look-calls t) (look-at t) look.Post
 look-returns-4 t c = (ways.look-receive (c .before .before .before .before .before .before .before .before .before .before .before .before .before .before .before .before .before .before .before .before .before .before .before .before .before .before .before .before .args .left) _ _ _ _ (c .before .before .before .before .before .before .before .before .before .before .before .before .before .before .before .before .before .before .before .before .before .before .before .if1 .left) _ _ (gave (c .before .before .before .before .before .before .before .before .before .before .before .before .before .before .before .before .before .before .before .before .read-word .ensures)) (sym (c .before .before .before .before .before .before .before .before .before .before .before .before .before .before .before .before .before .before .is-unfit .ensures) ∙ c .before .before .before .before .before .before .before .before .before .before .before .before .before .before .before .before .before .if2 .left) (sym (c .before .before .before .before .before .before .before .before .before .before .before .before .before .before .before .before .is-tx-complete .ensures) ∙ c .before .before .before .before .before .before .before .before .before .before .before .before .before .before .before .if3 .left) _ _ _ _ (sym (c .before .before .before .before .before .before .before .before .before .before .before .before .before .before .is-rx-complete .ensures) ∙ c .before .before .before .before .before .before .before .before .before .before .before .before .before .if4 .taken) (c .before .before .before .before .before .before .before .before .receive .ensures .0), (c .before .before .before .before .before .before .before .before .receive .ensures .1, unmoved.look-receive (c .before .before .before .before .before .before .before .before .before .before .before .before .before .before .before .before .before .before .before .before .before .before .before .before .before .before .before .before .args .left) _ _ _ _ _ _ _ _ (c .before .before .before .before .before .before .before .before .before .before .before .before .before .before .before .before .before .before .before .before .before .before .before .if1 .left) _ _ (gave (c .before .before .before .before .before .before .before .before .before .before .before .before .before .before .before .before .before .before .before .before .read-word .ensures)) (sym (c .before .before .before .before .before .before .before .before .before .before .before .before .before .before .before .before .before .before .is-unfit .ensures) ∙ c .before .before .before .before .before .before .before .before .before .before .before .before .before .before .before .before .before .if2 .left) (sym (c .before .before .before .before .before .before .before .before .before .before .before .before .before .before .before .before .is-tx-complete .ensures) ∙ c .before .before .before .before .before .before .before .before .before .before .before .before .before .before .before .if3 .left) (sym (c .before .before .before .before .before .before .before .before .before .before .before .before .before .before .is-rx-complete .ensures) ∙ c .before .before .before .before .before .before .before .before .before .before .before .before .before .if4 .taken)))
 
-look-same-length-9 : (t : ℕ) → look-lts.Need-same-length-9 (read-word-reads.Asked, read-word-reads.Learnt, is-unfit-reads.Asked, is-unfit-reads.Learnt, is-tx-reads.Asked, is-tx-reads.Learnt, report-reads.Asked, report-reads.Learnt, is-rx-reads.Asked, is-rx-reads.Learnt, receive-below t, receive.Post, write-word-reads.Asked, write-word-reads.Learnt) (look-at t) look.Post
-look-same-length-9 t c = ram-kept (c .before .before .before .before .before .before .before .before .read-word .ensures .stands .sound) (c .before .before .before .before .before .before .before .before .before .before .before .before .before .before .before .before .pre .1 .sound)
+look-sub-idle : (t : ℕ) → look-lts.Need-sub-idle (look-calls t) (look-at t) look.Post
+look-sub-idle t c = omega (arith, c .before .before .before .before .before .before .before .before .before .before .before .before .if1 .left)
 
-look-same-length-10 : (t : ℕ) → look-lts.Need-same-length-10 (read-word-reads.Asked, read-word-reads.Learnt, is-unfit-reads.Asked, is-unfit-reads.Learnt, is-tx-reads.Asked, is-tx-reads.Learnt, report-reads.Asked, report-reads.Learnt, is-rx-reads.Asked, is-rx-reads.Learnt, receive-below t, receive.Post, write-word-reads.Asked, write-word-reads.Learnt) (look-at t) look.Post
-look-same-length-10 t c = dir-kept (c .before .before .before .before .before .before .before .before .read-word .ensures .stands .sound) (c .before .before .before .before .before .before .before .before .before .before .before .before .before .before .before .before .pre .1 .sound)
+look-idle-requires : (t : ℕ) → look-lts.Need-idle-requires (look-calls t) (look-at t) look.Post
+look-idle-requires t c κs = c .before .before .before .before .before .before .before .before .before .read-word .ensures .stands .sound
 
-look-returns-5 : (t : ℕ) → look-lts.Need-returns-5 (read-word-reads.Asked, read-word-reads.Learnt, is-unfit-reads.Asked, is-unfit-reads.Learnt, is-tx-reads.Asked, is-tx-reads.Learnt, report-reads.Asked, report-reads.Learnt, is-rx-reads.Asked, is-rx-reads.Learnt, receive-below t, receive.Post, write-word-reads.Asked, write-word-reads.Learnt) (look-at t) look.Post
-look-returns-5 t c = (ways.look-one (c .before .before .before .before .before .before .before .before .before .before .before .before .before .before .before .before .args .left) _ _ _ _ (c .before .before .before .before .before .before .before .before .before .before .before .if1 .left) _ _ (gave (c .before .before .before .before .before .before .before .before .read-word .ensures)) (sym (c .before .before .before .before .before .before .is-unfit .ensures) ∙ c .before .before .before .before .before .if2 .left) (sym (c .before .before .before .before .is-tx-complete .ensures) ∙ c .before .before .before .if3 .left) (sym (c .before .before .is-rx-complete .ensures) ∙ c .before .if4 .left) _ (c .if5 .taken), (c .before .before .before .before .before .before .before .before .read-word .ensures .stands .sound, unmoved.look-idle (c .before .before .before .before .before .before .before .before .before .before .before .before .before .before .before .before .args .left) _ _ _ _ _ _ _ _ (c .before .before .before .before .before .before .before .before .before .before .before .if1 .left) _ _ (gave (c .before .before .before .before .before .before .before .before .read-word .ensures)) (sym (c .before .before .before .before .before .before .is-unfit .ensures) ∙ c .before .before .before .before .before .if2 .left) (sym (c .before .before .before .before .is-tx-complete .ensures) ∙ c .before .before .before .if3 .left) (sym (c .before .before .is-rx-complete .ensures) ∙ c .before .if4 .left)))
+look-same-length-9 : (t : ℕ) → look-lts.Need-same-length-9 (look-calls t) (look-at t) look.Post
+look-same-length-9 t c = ram-kept (c .before .before .before .before .idle .ensures .1) (c .before .before .before .before .before .before .before .before .before .before .before .before .before .before .before .before .before .before .before .before .before .before .pre .1 .sound)
 
-look-add-write-word : (t : ℕ) → look-lts.Need-add-write-word (read-word-reads.Asked, read-word-reads.Learnt, is-unfit-reads.Asked, is-unfit-reads.Learnt, is-tx-reads.Asked, is-tx-reads.Learnt, report-reads.Asked, report-reads.Learnt, is-rx-reads.Asked, is-rx-reads.Learnt, receive-below t, receive.Post, write-word-reads.Asked, write-word-reads.Learnt) (look-at t) look.Post
-look-add-write-word t c = search needs
+look-same-length-10 : (t : ℕ) → look-lts.Need-same-length-10 (look-calls t) (look-at t) look.Post
+look-same-length-10 t c = dir-kept (c .before .before .before .before .idle .ensures .1) (c .before .before .before .before .before .before .before .before .before .before .before .before .before .before .before .before .before .before .before .before .before .before .pre .1 .sound)
 
-look-write-word-requires : (t : ℕ) → look-lts.Need-write-word-requires (read-word-reads.Asked, read-word-reads.Learnt, is-unfit-reads.Asked, is-unfit-reads.Learnt, is-tx-reads.Asked, is-tx-reads.Learnt, report-reads.Asked, report-reads.Learnt, is-rx-reads.Asked, is-rx-reads.Learnt, receive-below t, receive.Post, write-word-reads.Asked, write-word-reads.Learnt) (look-at t) look.Post
-look-write-word-requires t c κs = (c .before .before .before .before .before .before .before .before .before .before .read-word .ensures .stands .sound, refl)
+look-returns-5 : (t : ℕ) → look-lts.Need-returns-5 (look-calls t) (look-at t) look.Post
+look-returns-5 t c = (idle-after (c .before .before .before .before .before .before .before .before .before .before .before .before .before .before .before .before .before .before .before .before .before .before .args .left) _ _ _ _ (c .before .before .before .before .before .before .before .before .before .before .before .before .before .before .before .before .before .if1 .left) _ _ (gave (c .before .before .before .before .before .before .before .before .before .before .before .before .before .before .read-word .ensures)) (sym (c .before .before .before .before .before .before .before .before .before .before .before .before .is-unfit .ensures) ∙ c .before .before .before .before .before .before .before .before .before .before .before .if2 .left) (sym (c .before .before .before .before .before .before .before .before .before .before .is-tx-complete .ensures) ∙ c .before .before .before .before .before .before .before .before .before .if3 .left) (sym (c .before .before .before .before .before .before .before .before .is-rx-complete .ensures) ∙ c .before .before .before .before .before .before .before .if4 .left) _ _ (c .before .before .before .before .idle .ensures .0), (c .before .before .before .before .idle .ensures .1, unmoved.look-idle (c .before .before .before .before .before .before .before .before .before .before .before .before .before .before .before .before .before .before .before .before .before .before .args .left) _ _ _ _ _ _ _ _ (c .before .before .before .before .before .before .before .before .before .before .before .before .before .before .before .before .before .if1 .left) _ _ (gave (c .before .before .before .before .before .before .before .before .before .before .before .before .before .before .read-word .ensures)) (sym (c .before .before .before .before .before .before .before .before .before .before .before .before .is-unfit .ensures) ∙ c .before .before .before .before .before .before .before .before .before .before .before .if2 .left) (sym (c .before .before .before .before .before .before .before .before .before .before .is-tx-complete .ensures) ∙ c .before .before .before .before .before .before .before .before .before .if3 .left) (sym (c .before .before .before .before .before .before .before .before .is-rx-complete .ensures) ∙ c .before .before .before .before .before .before .before .if4 .left)))
 
-look-sub-t48 : (t : ℕ) → look-lts.Need-sub-t48 (read-word-reads.Asked, read-word-reads.Learnt, is-unfit-reads.Asked, is-unfit-reads.Learnt, is-tx-reads.Asked, is-tx-reads.Learnt, report-reads.Asked, report-reads.Learnt, is-rx-reads.Asked, is-rx-reads.Learnt, receive-below t, receive.Post, write-word-reads.Asked, write-word-reads.Learnt) (look-at t) look.Post
-look-sub-t48 t c = omega (arith, c .before .before .before .before .before .before .before .before .before .before .before .before .before .before .before .before .before .before .if1 .left, c .before .before .before .before .before .before .before .if5 .left)
+receive-short-requires : (t : ℕ) → receive-lts.Need-short-requires (receive-calls t) (receive-at t) receive.Post
+receive-short-requires t c κs = search needs
 
-look-same-length-11 : (t : ℕ) → look-lts.Need-same-length-11 (read-word-reads.Asked, read-word-reads.Learnt, is-unfit-reads.Asked, is-unfit-reads.Learnt, is-tx-reads.Asked, is-tx-reads.Learnt, report-reads.Asked, report-reads.Learnt, is-rx-reads.Asked, is-rx-reads.Learnt, receive-below t, receive.Post, write-word-reads.Asked, write-word-reads.Learnt) (look-at t) look.Post
-look-same-length-11 t c = ram-kept (c .before .before .before .before .write-word .ensures .sound) (c .before .before .before .before .before .before .before .before .before .before .before .before .before .before .before .before .before .before .before .before .before .before .before .pre .1 .sound)
+receive-returns : (t : ℕ) → receive-lts.Need-returns (receive-calls t) (receive-at t) receive.Post
+receive-returns t c = rw (c .short .ensures) (ways.receive-none (c .before .before .before .before .before .before .args .left) _ _ _ _ _ (c .before .if1 .taken), c .before .before .before .before .before .before .pre .1 .sound)
 
-look-same-length-12 : (t : ℕ) → look-lts.Need-same-length-12 (read-word-reads.Asked, read-word-reads.Learnt, is-unfit-reads.Asked, is-unfit-reads.Learnt, is-tx-reads.Asked, is-tx-reads.Learnt, report-reads.Asked, report-reads.Learnt, is-rx-reads.Asked, is-rx-reads.Learnt, receive-below t, receive.Post, write-word-reads.Asked, write-word-reads.Learnt) (look-at t) look.Post
-look-same-length-12 t c = dir-kept (c .before .before .before .before .write-word .ensures .sound) (c .before .before .before .before .before .before .before .before .before .before .before .before .before .before .before .before .before .before .before .before .before .before .before .pre .1 .sound)
-
-look-returns-6 : (t : ℕ) → look-lts.Need-returns-6 (read-word-reads.Asked, read-word-reads.Learnt, is-unfit-reads.Asked, is-unfit-reads.Learnt, is-tx-reads.Asked, is-tx-reads.Learnt, report-reads.Asked, report-reads.Learnt, is-rx-reads.Asked, is-rx-reads.Learnt, receive-below t, receive.Post, write-word-reads.Asked, write-word-reads.Learnt) (look-at t) look.Post
-look-returns-6 t c = (ways.look-idle (c .before .before .before .before .before .before .before .before .before .before .before .before .before .before .before .before .before .before .before .before .before .before .before .args .left) _ _ _ _ (c .before .before .before .before .before .before .before .before .before .before .before .before .before .before .before .before .before .before .if1 .left) _ _ (gave (c .before .before .before .before .before .before .before .before .before .before .before .before .before .before .before .read-word .ensures)) (sym (c .before .before .before .before .before .before .before .before .before .before .before .before .before .is-unfit .ensures) ∙ c .before .before .before .before .before .before .before .before .before .before .before .before .if2 .left) (sym (c .before .before .before .before .before .before .before .before .before .before .before .is-tx-complete .ensures) ∙ c .before .before .before .before .before .before .before .before .before .before .if3 .left) (sym (c .before .before .before .before .before .before .before .before .before .is-rx-complete .ensures) ∙ c .before .before .before .before .before .before .before .before .if4 .left) (c .before .before .before .before .before .before .before .if5 .left) _ _ _ (wrote _ (c .before .before .before .before .write-word .ensures)), (c .before .before .before .before .write-word .ensures .sound, unmoved.look-idle (c .before .before .before .before .before .before .before .before .before .before .before .before .before .before .before .before .before .before .before .before .before .before .before .args .left) _ _ _ _ _ _ _ _ (c .before .before .before .before .before .before .before .before .before .before .before .before .before .before .before .before .before .before .if1 .left) _ _ (gave (c .before .before .before .before .before .before .before .before .before .before .before .before .before .before .before .read-word .ensures)) (sym (c .before .before .before .before .before .before .before .before .before .before .before .before .before .is-unfit .ensures) ∙ c .before .before .before .before .before .before .before .before .before .before .before .before .if2 .left) (sym (c .before .before .before .before .before .before .before .before .before .before .before .is-tx-complete .ensures) ∙ c .before .before .before .before .before .before .before .before .before .before .if3 .left) (sym (c .before .before .before .before .before .before .before .before .before .is-rx-complete .ensures) ∙ c .before .before .before .before .before .before .before .before .if4 .left)))
-
-receive-returns : (t : ℕ) → receive-lts.Need-returns (read-word-reads.Asked, read-word-reads.Learnt, is-bad-reads.Asked, is-bad-reads.Learnt, write-word-reads.Asked, write-word-reads.Learnt, look-below t, look.Post, fetch-reads.Asked, fetch-reads.Learnt) (receive-at t) receive.Post
-receive-returns t c = (ways.receive-none (c .before .before .before .before .before .args .left) _ _ _ _ _ (c .if1 .taken), c .before .before .before .before .before .pre .1 .sound)
-
-receive-read-word-requires : (t : ℕ) → receive-lts.Need-read-word-requires (read-word-reads.Asked, read-word-reads.Learnt, is-bad-reads.Asked, is-bad-reads.Learnt, write-word-reads.Asked, write-word-reads.Learnt, look-below t, look.Post, fetch-reads.Asked, fetch-reads.Learnt) (receive-at t) receive.Post
+receive-read-word-requires : (t : ℕ) → receive-lts.Need-read-word-requires (receive-calls t) (receive-at t) receive.Post
 receive-read-word-requires t c κs = (c .before .before .before .before .before .before .before .pre .1 .sound, refl)
 
-receive-is-bad-requires : (t : ℕ) → receive-lts.Need-is-bad-requires (read-word-reads.Asked, read-word-reads.Learnt, is-bad-reads.Asked, is-bad-reads.Learnt, write-word-reads.Asked, write-word-reads.Learnt, look-below t, look.Post, fetch-reads.Asked, fetch-reads.Learnt) (receive-at t) receive.Post
+receive-is-bad-requires : (t : ℕ) → receive-lts.Need-is-bad-requires (receive-calls t) (receive-at t) receive.Post
 receive-is-bad-requires t c κs = search needs
 
-receive-same-length : (t : ℕ) → receive-lts.Need-same-length (read-word-reads.Asked, read-word-reads.Learnt, is-bad-reads.Asked, is-bad-reads.Learnt, write-word-reads.Asked, write-word-reads.Learnt, look-below t, look.Post, fetch-reads.Asked, fetch-reads.Learnt) (receive-at t) receive.Post
-receive-same-length t c = ram-kept (c .before .before .before .before .read-word .ensures .stands .sound) (c .before .before .before .before .before .before .before .before .before .before .before .before .pre .1 .sound)
+receive-short-requires-2 : (t : ℕ) → receive-lts.Need-short-requires-2 (receive-calls t) (receive-at t) receive.Post
+receive-short-requires-2 t c κs = search needs
 
-receive-same-length-2 : (t : ℕ) → receive-lts.Need-same-length-2 (read-word-reads.Asked, read-word-reads.Learnt, is-bad-reads.Asked, is-bad-reads.Learnt, write-word-reads.Asked, write-word-reads.Learnt, look-below t, look.Post, fetch-reads.Asked, fetch-reads.Learnt) (receive-at t) receive.Post
-receive-same-length-2 t c = dir-kept (c .before .before .before .before .read-word .ensures .stands .sound) (c .before .before .before .before .before .before .before .before .before .before .before .before .pre .1 .sound)
+receive-same-length : (t : ℕ) → receive-lts.Need-same-length (receive-calls t) (receive-at t) receive.Post
+receive-same-length t c = ram-kept (c .before .before .before .before .before .read-word .ensures .stands .sound) (c .before .before .before .before .before .before .before .before .before .before .before .before .before .pre .1 .sound)
 
-receive-returns-2 : (t : ℕ) → receive-lts.Need-returns-2 (read-word-reads.Asked, read-word-reads.Learnt, is-bad-reads.Asked, is-bad-reads.Learnt, write-word-reads.Asked, write-word-reads.Learnt, look-below t, look.Post, fetch-reads.Asked, fetch-reads.Learnt) (receive-at t) receive.Post
-receive-returns-2 t c = (ways.receive-one (c .before .before .before .before .before .before .before .before .before .before .before .before .args .left) _ _ _ _ (c .before .before .before .before .before .before .before .if1 .left) _ _ (gave (c .before .before .before .before .read-word .ensures)) (sym (c .before .before .is-bad .ensures) ∙ c .before .if2 .taken) _ (c .if3 .taken), c .before .before .before .before .read-word .ensures .stands .sound)
+receive-same-length-2 : (t : ℕ) → receive-lts.Need-same-length-2 (receive-calls t) (receive-at t) receive.Post
+receive-same-length-2 t c = dir-kept (c .before .before .before .before .before .read-word .ensures .stands .sound) (c .before .before .before .before .before .before .before .before .before .before .before .before .before .pre .1 .sound)
 
-receive-write-word-requires : (t : ℕ) → receive-lts.Need-write-word-requires (read-word-reads.Asked, read-word-reads.Learnt, is-bad-reads.Asked, is-bad-reads.Learnt, write-word-reads.Asked, write-word-reads.Learnt, look-below t, look.Post, fetch-reads.Asked, fetch-reads.Learnt) (receive-at t) receive.Post
-receive-write-word-requires t c κs = (c .before .before .before .before .before .before .read-word .ensures .stands .sound, refl)
+receive-returns-2 : (t : ℕ) → receive-lts.Need-returns-2 (receive-calls t) (receive-at t) receive.Post
+receive-returns-2 t c = rw (c .short2 .ensures) (ways.receive-one (c .before .before .before .before .before .before .before .before .before .before .before .before .before .args .left) _ _ _ _ (c .before .before .before .before .before .before .before .before .if1 .left) _ _ (gave (c .before .before .before .before .before .read-word .ensures)) (sym (c .before .before .before .is-bad .ensures) ∙ c .before .before .if2 .taken) _ (c .before .if3 .taken), c .before .before .before .before .before .read-word .ensures .stands .sound)
 
-receive-sub-t29 : (t : ℕ) → receive-lts.Need-sub-t29 (read-word-reads.Asked, read-word-reads.Learnt, is-bad-reads.Asked, is-bad-reads.Learnt, write-word-reads.Asked, write-word-reads.Learnt, look-below t, look.Post, fetch-reads.Asked, fetch-reads.Learnt) (receive-at t) receive.Post
-receive-sub-t29 t c = omega (arith, c .before .before .before .before .before .before .before .before .before .before .before .before .before .before .before .if1 .left, c .before .before .before .before .before .before .before .before .if3 .left)
+receive-discard-requires : (t : ℕ) → receive-lts.Need-discard-requires (receive-calls t) (receive-at t) receive.Post
+receive-discard-requires t c κs = c .before .before .before .before .before .before .read-word .ensures .stands .sound
 
-receive-same-length-3 : (t : ℕ) → receive-lts.Need-same-length-3 (read-word-reads.Asked, read-word-reads.Learnt, is-bad-reads.Asked, is-bad-reads.Learnt, write-word-reads.Asked, write-word-reads.Learnt, look-below t, look.Post, fetch-reads.Asked, fetch-reads.Learnt) (receive-at t) receive.Post
-receive-same-length-3 t c = ram-kept (c .before .before .before .before .before .write-word .ensures .sound) (c .before .before .before .before .before .before .before .before .before .before .before .before .before .before .before .before .before .before .before .before .pre .1 .sound)
+receive-sub-t26 : (t : ℕ) → receive-lts.Need-sub-t26 (receive-calls t) (receive-at t) receive.Post
+receive-sub-t26 t c = omega (arith, c .before .before .before .before .before .before .before .before .before .before .before .before .before .before .before .if1 .left, c .before .before .before .before .before .before .before .before .if3 .left)
 
-receive-same-length-4 : (t : ℕ) → receive-lts.Need-same-length-4 (read-word-reads.Asked, read-word-reads.Learnt, is-bad-reads.Asked, is-bad-reads.Learnt, write-word-reads.Asked, write-word-reads.Learnt, look-below t, look.Post, fetch-reads.Asked, fetch-reads.Learnt) (receive-at t) receive.Post
-receive-same-length-4 t c = dir-kept (c .before .before .before .before .before .write-word .ensures .sound) (c .before .before .before .before .before .before .before .before .before .before .before .before .before .before .before .before .before .before .before .before .pre .1 .sound)
+receive-same-length-3 : (t : ℕ) → receive-lts.Need-same-length-3 (receive-calls t) (receive-at t) receive.Post
+receive-same-length-3 t c = ram-kept (c .before .before .before .before .before .discard .ensures .sound) (c .before .before .before .before .before .before .before .before .before .before .before .before .before .before .before .before .before .before .before .before .pre .1 .sound)
 
-receive-returns-3 : (t : ℕ) → receive-lts.Need-returns-3 (read-word-reads.Asked, read-word-reads.Learnt, is-bad-reads.Asked, is-bad-reads.Learnt, write-word-reads.Asked, write-word-reads.Learnt, look-below t, look.Post, fetch-reads.Asked, fetch-reads.Learnt) (receive-at t) receive.Post
-receive-returns-3 t c = (ways.receive-pause (c .before .before .before .before .before .before .before .before .before .before .before .before .before .before .before .before .before .before .before .before .args .left) _ _ _ _ (c .before .before .before .before .before .before .before .before .before .before .before .before .before .before .before .if1 .left) _ _ (gave (c .before .before .before .before .before .before .before .before .before .before .before .before .read-word .ensures)) (sym (c .before .before .before .before .before .before .before .before .before .before .is-bad .ensures) ∙ c .before .before .before .before .before .before .before .before .before .if2 .taken) (c .before .before .before .before .before .before .before .before .if3 .left) _ _ (wrote _ (c .before .before .before .before .before .write-word .ensures)) _ _, c .before .before .before .before .before .write-word .ensures .sound)
+receive-same-length-4 : (t : ℕ) → receive-lts.Need-same-length-4 (receive-calls t) (receive-at t) receive.Post
+receive-same-length-4 t c = dir-kept (c .before .before .before .before .before .discard .ensures .sound) (c .before .before .before .before .before .before .before .before .before .before .before .before .before .before .before .before .before .before .before .before .pre .1 .sound)
 
-receive-sub-look : (t : ℕ) → receive-lts.Need-sub-look (read-word-reads.Asked, read-word-reads.Learnt, is-bad-reads.Asked, is-bad-reads.Learnt, write-word-reads.Asked, write-word-reads.Learnt, look-below t, look.Post, fetch-reads.Asked, fetch-reads.Learnt) (receive-at t) receive.Post
+receive-returns-3 : (t : ℕ) → receive-lts.Need-returns-3 (receive-calls t) (receive-at t) receive.Post
+receive-returns-3 t c = (ways.receive-pause (c .before .before .before .before .before .before .before .before .before .before .before .before .before .before .before .before .before .before .before .before .args .left) _ _ _ _ (c .before .before .before .before .before .before .before .before .before .before .before .before .before .before .before .if1 .left) _ _ (gave (c .before .before .before .before .before .before .before .before .before .before .before .before .read-word .ensures)) (sym (c .before .before .before .before .before .before .before .before .before .before .is-bad .ensures) ∙ c .before .before .before .before .before .before .before .before .before .if2 .taken) (c .before .before .before .before .before .before .before .before .if3 .left) _ _ (wrote _ (c .before .before .before .before .before .discard .ensures)) _ _, c .before .before .before .before .before .discard .ensures .sound)
+
+receive-sub-look : (t : ℕ) → receive-lts.Need-sub-look (receive-calls t) (receive-at t) receive.Post
 receive-sub-look t c = omega (arith, c .before .before .before .before .before .before .before .before .before .before .before .before .before .before .before .before .before .before .before .if1 .left, c .before .before .before .before .before .before .before .before .before .before .before .before .if3 .left)
 
-receive-sub-look-2 : (t : ℕ) → receive-lts.Need-sub-look-2 (read-word-reads.Asked, read-word-reads.Learnt, is-bad-reads.Asked, is-bad-reads.Learnt, write-word-reads.Asked, write-word-reads.Learnt, look-below t, look.Post, fetch-reads.Asked, fetch-reads.Learnt) (receive-at t) receive.Post
+receive-sub-look-2 : (t : ℕ) → receive-lts.Need-sub-look-2 (receive-calls t) (receive-at t) receive.Post
 receive-sub-look-2 t c = omega (arith, c .before .before .before .before .if4 .left)
 
-receive-look-requires : (t : ℕ) → receive-lts.Need-look-requires (read-word-reads.Asked, read-word-reads.Learnt, is-bad-reads.Asked, is-bad-reads.Learnt, write-word-reads.Asked, write-word-reads.Learnt, look-below t, look.Post, fetch-reads.Asked, fetch-reads.Learnt) (receive-at t) receive.Post
-receive-look-requires t c κs = (omega (arith, c .before .before .before .before .before .before .before .before .before .before .before .before .before .before .before .before .before .before .before .before .before .before .before .before .pre .0, c .before .before .before .before .before .before .before .before .before .before .before .before .before .before .before .before .before .before .before .if1 .left, c .before .before .before .before .before .before .before .before .before .before .before .before .if3 .left), record { sound = c .before .before .before .before .before .before .before .before .before .write-word .ensures .sound; look = c .before .before .before .before .before .before .before .before .before .before .before .before .before .before .before .before .before .before .before .before .before .before .before .before .pre .1 .look; frame = c .before .before .before .before .before .before .before .before .before .before .before .before .before .before .before .before .before .before .before .before .before .before .before .before .pre .1 .frame })
+receive-look-requires : (t : ℕ) → receive-lts.Need-look-requires (receive-calls t) (receive-at t) receive.Post
+receive-look-requires t c κs = (omega (arith, c .before .before .before .before .before .before .before .before .before .before .before .before .before .before .before .before .before .before .before .before .before .before .before .before .pre .0, c .before .before .before .before .before .before .before .before .before .before .before .before .before .before .before .before .before .before .before .if1 .left, c .before .before .before .before .before .before .before .before .before .before .before .before .if3 .left), record { sound = c .before .before .before .before .before .before .before .before .before .discard .ensures .sound; look = c .before .before .before .before .before .before .before .before .before .before .before .before .before .before .before .before .before .before .before .before .before .before .before .before .pre .1 .look; frame = c .before .before .before .before .before .before .before .before .before .before .before .before .before .before .before .before .before .before .before .before .before .before .before .before .pre .1 .frame })
 
-receive-same-length-5 : (t : ℕ) → receive-lts.Need-same-length-5 (read-word-reads.Asked, read-word-reads.Learnt, is-bad-reads.Asked, is-bad-reads.Learnt, write-word-reads.Asked, write-word-reads.Learnt, look-below t, look.Post, fetch-reads.Asked, fetch-reads.Learnt) (receive-at t) receive.Post
+receive-same-length-5 : (t : ℕ) → receive-lts.Need-same-length-5 (receive-calls t) (receive-at t) receive.Post
 receive-same-length-5 t c = ram-kept (c .before .before .before .before .before .before .before .before .look .ensures .1 .0) (c .before .before .before .before .before .before .before .before .before .before .before .before .before .before .before .before .before .before .before .before .before .before .before .before .before .before .before .before .before .before .before .before .before .pre .1 .sound)
 
-receive-same-length-6 : (t : ℕ) → receive-lts.Need-same-length-6 (read-word-reads.Asked, read-word-reads.Learnt, is-bad-reads.Asked, is-bad-reads.Learnt, write-word-reads.Asked, write-word-reads.Learnt, look-below t, look.Post, fetch-reads.Asked, fetch-reads.Learnt) (receive-at t) receive.Post
+receive-same-length-6 : (t : ℕ) → receive-lts.Need-same-length-6 (receive-calls t) (receive-at t) receive.Post
 receive-same-length-6 t c = dir-kept (c .before .before .before .before .before .before .before .before .look .ensures .1 .0) (c .before .before .before .before .before .before .before .before .before .before .before .before .before .before .before .before .before .before .before .before .before .before .before .before .before .before .before .before .before .before .before .before .before .pre .1 .sound)
 
-receive-same-length-7 : (t : ℕ) → receive-lts.Need-same-length-7 (read-word-reads.Asked, read-word-reads.Learnt, is-bad-reads.Asked, is-bad-reads.Learnt, write-word-reads.Asked, write-word-reads.Learnt, look-below t, look.Post, fetch-reads.Asked, fetch-reads.Learnt) (receive-at t) receive.Post
+receive-same-length-7 : (t : ℕ) → receive-lts.Need-same-length-7 (receive-calls t) (receive-at t) receive.Post
 receive-same-length-7 t c = search needs
 
-receive-same-length-8 : (t : ℕ) → receive-lts.Need-same-length-8 (read-word-reads.Asked, read-word-reads.Learnt, is-bad-reads.Asked, is-bad-reads.Learnt, write-word-reads.Asked, write-word-reads.Learnt, look-below t, look.Post, fetch-reads.Asked, fetch-reads.Learnt) (receive-at t) receive.Post
+receive-same-length-8 : (t : ℕ) → receive-lts.Need-same-length-8 (receive-calls t) (receive-at t) receive.Post
 receive-same-length-8 t c = search needs
 
-receive-returns-4 : (t : ℕ) → receive-lts.Need-returns-4 (read-word-reads.Asked, read-word-reads.Learnt, is-bad-reads.Asked, is-bad-reads.Learnt, write-word-reads.Asked, write-word-reads.Learnt, look-below t, look.Post, fetch-reads.Asked, fetch-reads.Learnt) (receive-at t) receive.Post
-receive-returns-4 t c = (ways.receive-again (c .before .before .before .before .before .before .before .before .before .before .before .before .before .before .before .before .before .before .before .before .before .before .before .before .before .before .before .before .before .before .before .before .before .args .left) _ _ _ _ (c .before .before .before .before .before .before .before .before .before .before .before .before .before .before .before .before .before .before .before .before .before .before .before .before .before .before .before .before .if1 .left) _ _ (gave (c .before .before .before .before .before .before .before .before .before .before .before .before .before .before .before .before .before .before .before .before .before .before .before .before .before .read-word .ensures)) (sym (c .before .before .before .before .before .before .before .before .before .before .before .before .before .before .before .before .before .before .before .before .before .before .before .is-bad .ensures) ∙ c .before .before .before .before .before .before .before .before .before .before .before .before .before .before .before .before .before .before .before .before .before .before .if2 .taken) (c .before .before .before .before .before .before .before .before .before .before .before .before .before .before .before .before .before .before .before .before .before .if3 .left) _ _ (wrote _ (c .before .before .before .before .before .before .before .before .before .before .before .before .before .before .before .before .before .before .write-word .ensures)) _ _ _ _ (c .before .before .before .before .before .before .before .before .look .ensures .0), c .before .before .before .before .before .before .before .before .look .ensures .1 .0)
+receive-returns-4 : (t : ℕ) → receive-lts.Need-returns-4 (receive-calls t) (receive-at t) receive.Post
+receive-returns-4 t c = (ways.receive-again (c .before .before .before .before .before .before .before .before .before .before .before .before .before .before .before .before .before .before .before .before .before .before .before .before .before .before .before .before .before .before .before .before .before .args .left) _ _ _ _ (c .before .before .before .before .before .before .before .before .before .before .before .before .before .before .before .before .before .before .before .before .before .before .before .before .before .before .before .before .if1 .left) _ _ (gave (c .before .before .before .before .before .before .before .before .before .before .before .before .before .before .before .before .before .before .before .before .before .before .before .before .before .read-word .ensures)) (sym (c .before .before .before .before .before .before .before .before .before .before .before .before .before .before .before .before .before .before .before .before .before .before .before .is-bad .ensures) ∙ c .before .before .before .before .before .before .before .before .before .before .before .before .before .before .before .before .before .before .before .before .before .before .if2 .taken) (c .before .before .before .before .before .before .before .before .before .before .before .before .before .before .before .before .before .before .before .before .before .if3 .left) _ _ (wrote _ (c .before .before .before .before .before .before .before .before .before .before .before .before .before .before .before .before .before .before .discard .ensures)) _ _ _ _ (c .before .before .before .before .before .before .before .before .look .ensures .0), c .before .before .before .before .before .before .before .before .look .ensures .1 .0)
 
-receive-sub-fetch : (t : ℕ) → receive-lts.Need-sub-fetch (read-word-reads.Asked, read-word-reads.Learnt, is-bad-reads.Asked, is-bad-reads.Learnt, write-word-reads.Asked, write-word-reads.Learnt, look-below t, look.Post, fetch-reads.Asked, fetch-reads.Learnt) (receive-at t) receive.Post
+receive-cast-n : (t : ℕ) → receive-lts.Need-cast-n (receive-calls t) (receive-at t) receive.Post
+receive-cast-n t c = search needs
+
+receive-sub-fetch : (t : ℕ) → receive-lts.Need-sub-fetch (receive-calls t) (receive-at t) receive.Post
 receive-sub-fetch t c = omega (arith, c .before .before .before .before .before .before .before .before .before .before .if1 .left)
 
-receive-cast-fetch : (t : ℕ) → receive-lts.Need-cast-fetch (read-word-reads.Asked, read-word-reads.Learnt, is-bad-reads.Asked, is-bad-reads.Learnt, write-word-reads.Asked, write-word-reads.Learnt, look-below t, look.Post, fetch-reads.Asked, fetch-reads.Learnt) (receive-at t) receive.Post
-receive-cast-fetch t c = search needs
-
-receive-fetch-requires : (t : ℕ) → receive-lts.Need-fetch-requires (read-word-reads.Asked, read-word-reads.Learnt, is-bad-reads.Asked, is-bad-reads.Learnt, write-word-reads.Asked, write-word-reads.Learnt, look-below t, look.Post, fetch-reads.Asked, fetch-reads.Learnt) (receive-at t) receive.Post
+receive-fetch-requires : (t : ℕ) → receive-lts.Need-fetch-requires (receive-calls t) (receive-at t) receive.Post
 receive-fetch-requires t c κs = (record { sound = c .before .before .before .before .before .before .before .read-word .ensures .stands .sound; look = c .before .before .before .before .before .before .before .before .before .before .before .before .before .before .before .pre .1 .look; frame = c .before .before .before .before .before .before .before .before .before .before .before .before .before .before .before .pre .1 .frame }, ways.good-size _ (sym (c .before .before .before .before .before .is-bad .ensures) ∙ c .before .before .before .before .if2 .left))
 
-receive-same-length-9 : (t : ℕ) → receive-lts.Need-same-length-9 (read-word-reads.Asked, read-word-reads.Learnt, is-bad-reads.Asked, is-bad-reads.Learnt, write-word-reads.Asked, write-word-reads.Learnt, look-below t, look.Post, fetch-reads.Asked, fetch-reads.Learnt) (receive-at t) receive.Post
+receive-same-length-9 : (t : ℕ) → receive-lts.Need-same-length-9 (receive-calls t) (receive-at t) receive.Post
 receive-same-length-9 t c = ram-kept (c .before .before .before .before .before .before .before .before .fetch .ensures .1) (c .before .before .before .before .before .before .before .before .before .before .before .before .before .before .before .before .before .before .before .before .before .before .before .before .pre .1 .sound)
 
-receive-same-length-10 : (t : ℕ) → receive-lts.Need-same-length-10 (read-word-reads.Asked, read-word-reads.Learnt, is-bad-reads.Asked, is-bad-reads.Learnt, write-word-reads.Asked, write-word-reads.Learnt, look-below t, look.Post, fetch-reads.Asked, fetch-reads.Learnt) (receive-at t) receive.Post
+receive-same-length-10 : (t : ℕ) → receive-lts.Need-same-length-10 (receive-calls t) (receive-at t) receive.Post
 receive-same-length-10 t c = dir-kept (c .before .before .before .before .before .before .before .before .fetch .ensures .1) (c .before .before .before .before .before .before .before .before .before .before .before .before .before .before .before .before .before .before .before .before .before .before .before .before .pre .1 .sound)
 
-receive-same-length-11 : (t : ℕ) → receive-lts.Need-same-length-11 (read-word-reads.Asked, read-word-reads.Learnt, is-bad-reads.Asked, is-bad-reads.Learnt, write-word-reads.Asked, write-word-reads.Learnt, look-below t, look.Post, fetch-reads.Asked, fetch-reads.Learnt) (receive-at t) receive.Post
+receive-same-length-11 : (t : ℕ) → receive-lts.Need-same-length-11 (receive-calls t) (receive-at t) receive.Post
 receive-same-length-11 t c = search needs
 
-receive-same-length-12 : (t : ℕ) → receive-lts.Need-same-length-12 (read-word-reads.Asked, read-word-reads.Learnt, is-bad-reads.Asked, is-bad-reads.Learnt, write-word-reads.Asked, write-word-reads.Learnt, look-below t, look.Post, fetch-reads.Asked, fetch-reads.Learnt) (receive-at t) receive.Post
+receive-same-length-12 : (t : ℕ) → receive-lts.Need-same-length-12 (receive-calls t) (receive-at t) receive.Post
 receive-same-length-12 t c = search needs
 
-receive-returns-5 : (t : ℕ) → receive-lts.Need-returns-5 (read-word-reads.Asked, read-word-reads.Learnt, is-bad-reads.Asked, is-bad-reads.Learnt, write-word-reads.Asked, write-word-reads.Learnt, look-below t, look.Post, fetch-reads.Asked, fetch-reads.Learnt) (receive-at t) receive.Post
+receive-returns-5 : (t : ℕ) → receive-lts.Need-returns-5 (receive-calls t) (receive-at t) receive.Post
 receive-returns-5 t c = (ways.receive-fetch (c .before .before .before .before .before .before .before .before .before .before .before .before .before .before .before .before .before .before .before .before .before .before .before .before .args .left) _ _ _ _ (c .before .before .before .before .before .before .before .before .before .before .before .before .before .before .before .before .before .before .before .if1 .left) _ _ (gave (c .before .before .before .before .before .before .before .before .before .before .before .before .before .before .before .before .read-word .ensures)) _ _ _ _ (sym (c .before .before .before .before .before .before .before .before .before .before .before .before .before .before .is-bad .ensures) ∙ c .before .before .before .before .before .before .before .before .before .before .before .before .before .if2 .left) (c .before .before .before .before .before .before .before .before .fetch .ensures .0), c .before .before .before .before .before .before .before .before .fetch .ensures .1)
 
 pub +look+receive-spec : {M : Type 1} → statement M
-+look+receive-spec = close μ-look μ-receive (λ t. look-lts.spec (read-word-reads.Asked, read-word-reads.Learnt, is-unfit-reads.Asked, is-unfit-reads.Learnt, is-tx-reads.Asked, is-tx-reads.Learnt, report-reads.Asked, report-reads.Learnt, is-rx-reads.Asked, is-rx-reads.Learnt, receive-below t, receive.Post, write-word-reads.Asked, write-word-reads.Learnt)
++look+receive-spec = close μ-look μ-receive (λ t. look-lts.spec (look-calls t)
     (look-at t)
     look.Post
+    (look-short-requires t)
     (look-returns t)
     (look-read-word-requires t)
     (look-is-unfit-requires t)
-    (look-sub-t23 t)
+    (look-sub-ended t)
+    (look-ended-requires t)
     (look-same-length t)
     (look-same-length-2 t)
     (look-returns-2 t)
@@ -240,37 +279,24 @@ pub +look+receive-spec : {M : Type 1} → statement M
     (look-same-length-7 t)
     (look-same-length-8 t)
     (look-returns-4 t)
+    (look-sub-idle t)
+    (look-idle-requires t)
     (look-same-length-9 t)
     (look-same-length-10 t)
-    (look-returns-5 t)
-    (look-add-write-word t)
-    (look-write-word-requires t)
-    (look-sub-t48 t)
-    (look-same-length-11 t)
-    (look-same-length-12 t)
-    (look-returns-6 t))
-    λ t. receive-lts.spec (
-      read-word-reads.Asked,
-      read-word-reads.Learnt,
-      is-bad-reads.Asked,
-      is-bad-reads.Learnt,
-      write-word-reads.Asked,
-      write-word-reads.Learnt,
-      look-below t,
-      look.Post,
-      fetch-reads.Asked,
-      fetch-reads.Learnt,
-    )
+    (look-returns-5 t))
+    λ t. receive-lts.spec (receive-calls t)
     (receive-at t)
     receive.Post
+    (receive-short-requires t)
     (receive-returns t)
     (receive-read-word-requires t)
     (receive-is-bad-requires t)
+    (receive-short-requires-2 t)
     (receive-same-length t)
     (receive-same-length-2 t)
     (receive-returns-2 t)
-    (receive-write-word-requires t)
-    (receive-sub-t29 t)
+    (receive-discard-requires t)
+    (receive-sub-t26 t)
     (receive-same-length-3 t)
     (receive-same-length-4 t)
     (receive-returns-3 t)
@@ -282,8 +308,8 @@ pub +look+receive-spec : {M : Type 1} → statement M
     (receive-same-length-7 t)
     (receive-same-length-8 t)
     (receive-returns-4 t)
+    (receive-cast-n t)
     (receive-sub-fetch t)
-    (receive-cast-fetch t)
     (receive-fetch-requires t)
     (receive-same-length-9 t)
     (receive-same-length-10 t)

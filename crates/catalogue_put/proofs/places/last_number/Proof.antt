@@ -9,19 +9,20 @@ use Rattle.catalogue_rules.specs.Field.{fieldsOf}
 use Rattle.catalogue_rules.proofs.At.{stands, stops}
 use Rattle.catalogue_rules.specs.Cards.{versionsFrom}
 use Rattle.catalogue_rules.specs.Edit.{latestNumber}
-use Rattle.catalogue_put.proofs.Counted.{lastOr, latest-is, last-none, last-end, last-on}
+use Rattle.catalogue_rules.proofs.Versions.{latestFrom, latest-any}
+use Rattle.catalogue_put.proofs.Counted.{last-none, last-end, last-on}
 use borrow.Author.Needs.{needs}
 use Rattle.catalogue_put.proofs.places.last_number.Statement.{statement}
 use Rattle.catalogue_put.proofs.places.last_number.Tie as tie
 
 abbrev Inv-loop : tie.InvT-loop
-Inv-loop file from at₀ told₀ last₀ at told last = lastOr last (versionsFrom told (fieldsOf (drop at file))) ≡ latestNumber (versionsFrom 0 (fieldsOf (drop from file)))
+Inv-loop file from at₀ told₀ last₀ at told last = latestFrom last (versionsFrom told (fieldsOf (drop at file))) ≡ latestNumber (versionsFrom 0 (fieldsOf (drop from file)))
 
 abbrev μ-loop : tie.MeasureT-loop
 μ-loop file from at₀ told₀ last₀ at told last = length file - at
 
 loop-holds : tie.Need-loop-holds Inv-loop μ-loop
-loop-holds c = latest-is _
+loop-holds c = sym (latest-any _)
 
 field-at-requires : tie.Need-field-at-requires Inv-loop μ-loop
 field-at-requires c κs = search needs

@@ -38,14 +38,14 @@ sub-if3 c = search needs
 
 returns-3 : tie.Need-returns-3
 returns-3 c =
-    cut-value (c .before .before .before .before .before .before .before .args .file .now) (c .before .before .before .before .before .before .before .args .at) (c .before .before .before .byte-at .ensures) (c .before .before .byte-at2 .ensures) (c .before .pair .ensures) (omega arith) (c .if3 .taken)
+    cut-value (c .before .before .before .before .before .before .before .args .file .now) (c .before .before .before .before .before .before .before .args .at) (c .before .before .byte-at2 .ensures) (c .before .before .before .byte-at .ensures) (c .before .pair .ensures) (omega arith) (c .if3 .taken)
 
 byte-at-requires-3 : tie.Need-byte-at-requires-3
 byte-at-requires-3 c κs = search needs
 
 returns-4 : tie.Need-returns-4
 returns-4 c =
-    found-whole (c .before .before .before .before .before .before .before .before .args .file .now) (c .before .before .before .before .before .before .before .before .args .at) (c .before .before .before .before .byte-at .ensures) (c .before .before .before .byte-at2 .ensures) (c .before .before .pair .ensures) (omega arith) (c .before .if3 .left) (c .byte-at3 .ensures)
+    found-whole (c .before .before .before .before .before .before .before .before .args .file .now) (c .before .before .before .before .before .before .before .before .args .at) (c .before .before .before .byte-at2 .ensures) (c .before .before .before .before .byte-at .ensures) (c .before .before .pair .ensures) (omega arith) (c .before .if3 .left) (c .byte-at3 .ensures)
 
 pub field-at-spec : {M : Type 1} → statement M
 field-at-spec =

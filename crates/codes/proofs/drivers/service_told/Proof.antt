@@ -18,7 +18,7 @@ returns-4 : tie.Need-returns-4
 returns-4 c = rw (c .enum-told .given .1) refl
 
 returns-5 : tie.Need-returns-5
-returns-5 c = rw (c .before .before .a4 .given .1, c .number .ensures) refl
+returns-5 c = rw (c .before .before .a4 .given .1, c .service-refused .ensures) refl
 
 pub service-told-spec : {M : Type 1} → statement M
 service-told-spec = tie.close (tie.spec (λ c. search needs) (λ c. search needs) (λ c. search needs) (λ c. search needs) (λ c. search needs) (λ c κs. search needs) returns returns-2 returns-3 returns-4 returns-5)

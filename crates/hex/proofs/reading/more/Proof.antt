@@ -12,6 +12,9 @@ value-requires c κs = search needs
 wide-requires : tie.Need-wide-requires
 wide-requires c κs = search needs
 
+cast-d : tie.Need-cast-d
+cast-d c = search needs
+
 returns : tie.Need-returns
 unfolding valued
 returns c = (rw (← c .before .before .value .ensures, ← c .before .wide .ensures .0, le-leb _ _ (c .if1 .taken)), omega arith)
@@ -32,4 +35,4 @@ returns-3 c = (rw (← c .before .before .before .value .ensures, ← c .before 
 
 pub more-spec : {M : Type 1} → statement M
 more-spec =
-    tie.close (tie.spec value-requires wide-requires returns mul-n add-n returns-2 returns-3)
+    tie.close (tie.spec value-requires wide-requires cast-d returns mul-n add-n returns-2 returns-3)

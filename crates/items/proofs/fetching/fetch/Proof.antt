@@ -1,5 +1,4 @@
 -- `fetching::fetch`: its words and the discard are those of `fetchTalk`, by the laws of Ways. Assumes nothing.
-use mathlib.Core.Path.{refl}
 use Rattle.driver_rules.proofs.Runs.{wrote}
 use Rattle.driver_rules.proofs.ItemWays as ways
 use borrow.Author.Needs.{needs}
@@ -12,14 +11,20 @@ add-cost c = search needs
 add-cost-2 : tie.Need-add-cost-2
 add-cost-2 c = search needs
 
+short-requires : tie.Need-short-requires
+short-requires c κs = search needs
+
 returns : tie.Need-returns
-returns c = (ways.fetch-short (c .before .before .before .before .before .args .left) _ _ _ _ _ _ (c .if1 .taken), c .before .before .before .before .before .pre .0 .sound)
+returns c = rw (c .short .ensures) (ways.fetch-short (c .before .before .before .before .before .before .args .left) _ _ _ _ _ _ (c .before .if1 .taken), c .before .before .before .before .before .before .pre .0 .sound)
 
 read-frame-requires : tie.Need-read-frame-requires
 read-frame-requires c κs = search needs
 
-write-word-requires : tie.Need-write-word-requires
-write-word-requires c κs = (c .before .before .before .before .read-frame .ensures .stands .sound, refl)
+discard-requires : tie.Need-discard-requires
+discard-requires c κs = c .before .before .before .before .read-frame .ensures .stands .sound
+
+ended-requires : tie.Need-ended-requires
+ended-requires c κs = search needs
 
 same-length : tie.Need-same-length
 same-length c = search needs
@@ -31,13 +36,16 @@ same-length-3 : tie.Need-same-length-3
 same-length-3 c = search needs
 
 returns-2 : tie.Need-returns-2
-returns-2 c = (ways.fetch-look (c .before .before .before .before .before .before .before .before .before .before .before .before .before .before .before .before .before .before .before .args .left) _ _ _ _ _ (c .before .before .before .before .before .before .before .before .before .before .before .before .before .before .if1 .left) _ _ _ (c .before .before .before .before .before .before .before .before .before .read-frame .ensures .stands .shows) (wrote _ (c .before .before .before .before .write-word .ensures)) _ _ (c .before .before .before .before .before .before .before .before .before .before .before .before .before .if2 .taken) (c .before .before .before .before .before .before .before .before .before .read-frame .ensures .laid), c .before .before .before .before .write-word .ensures .sound)
+returns-2 c = rw (c .ended .ensures) (ways.fetch-look (c .before .before .before .before .before .before .before .before .before .before .before .before .before .before .before .before .before .before .before .before .args .left) _ _ _ _ _ (c .before .before .before .before .before .before .before .before .before .before .before .before .before .before .before .if1 .left) _ _ _ (c .before .before .before .before .before .before .before .before .before .before .read-frame .ensures .stands .shows) (wrote _ (c .before .before .before .before .before .discard .ensures)) _ _ (c .before .before .before .before .before .before .before .before .before .before .before .before .before .before .if2 .taken) (c .before .before .before .before .before .before .before .before .before .before .read-frame .ensures .laid), c .before .before .before .before .before .discard .ensures .sound)
 
 read-frame-requires-2 : tie.Need-read-frame-requires-2
 read-frame-requires-2 c κs = search needs
 
-write-word-requires-2 : tie.Need-write-word-requires-2
-write-word-requires-2 c κs = (c .before .before .before .before .read-frame2 .ensures .stands .sound, refl)
+discard-requires-2 : tie.Need-discard-requires-2
+discard-requires-2 c κs = c .before .before .before .before .read-frame2 .ensures .stands .sound
+
+ended-requires-2 : tie.Need-ended-requires-2
+ended-requires-2 c κs = search needs
 
 same-length-4 : tie.Need-same-length-4
 same-length-4 c = search needs
@@ -49,7 +57,7 @@ same-length-6 : tie.Need-same-length-6
 same-length-6 c = search needs
 
 returns-3 : tie.Need-returns-3
-returns-3 c = (ways.fetch-frame (c .before .before .before .before .before .before .before .before .before .before .before .before .before .before .before .before .before .before .before .args .left) _ _ _ _ _ (c .before .before .before .before .before .before .before .before .before .before .before .before .before .before .if1 .left) _ _ _ (c .before .before .before .before .before .before .before .before .before .read-frame2 .ensures .stands .shows) (wrote _ (c .before .before .before .before .write-word2 .ensures)) _ _ (c .before .before .before .before .before .before .before .before .before .before .before .before .before .if2 .left) (c .before .before .before .before .before .before .before .before .before .read-frame2 .ensures .laid), c .before .before .before .before .write-word2 .ensures .sound)
+returns-3 c = rw (c .ended2 .ensures) (ways.fetch-frame (c .before .before .before .before .before .before .before .before .before .before .before .before .before .before .before .before .before .before .before .before .args .left) _ _ _ _ _ (c .before .before .before .before .before .before .before .before .before .before .before .before .before .before .before .if1 .left) _ _ _ (c .before .before .before .before .before .before .before .before .before .before .read-frame2 .ensures .stands .shows) (wrote _ (c .before .before .before .before .before .discard2 .ensures)) _ _ (c .before .before .before .before .before .before .before .before .before .before .before .before .before .before .if2 .left) (c .before .before .before .before .before .before .before .before .before .before .read-frame2 .ensures .laid), c .before .before .before .before .before .discard2 .ensures .sound)
 
 pub fetch-spec : {M : Type 1} → statement M
 fetch-spec =
@@ -57,15 +65,18 @@ fetch-spec =
     (tie.spec
     add-cost
     add-cost-2
+    short-requires
     returns
     read-frame-requires
-    write-word-requires
+    discard-requires
+    ended-requires
     same-length
     same-length-2
     same-length-3
     returns-2
     read-frame-requires-2
-    write-word-requires-2
+    discard-requires-2
+    ended-requires-2
     same-length-4
     same-length-5
     same-length-6

@@ -10,8 +10,11 @@ use borrow.Author.Needs.{needs}
 use Rattle.items.proofs.reporting.report.Statement.{statement}
 use Rattle.items.proofs.reporting.report.Tie as tie
 
+short-requires : tie.Need-short-requires
+short-requires c κs = search needs
+
 returns : tie.Need-returns
-returns c = (ways.report-short _ _ _ _ (c .if1 .taken), c .before .before .before .pre)
+returns c = rw (c .short .ensures) (ways.report-short _ _ _ _ (c .before .if1 .taken), c .before .before .before .before .pre)
 
 read-byte-requires : tie.Need-read-byte-requires
 read-byte-requires c κs = (c .before .before .before .before .before .pre, λ _. past-data)
@@ -62,6 +65,7 @@ pub report-spec : {M : Type 1} → statement M
 report-spec =
     tie.close
     (tie.spec
+    short-requires
     returns
     read-byte-requires
     write-byte-requires

@@ -23,13 +23,19 @@ cast-ticket-3 c = search needs
 sub-t14 : tie.Need-sub-t14
 sub-t14 c = search needs
 
+ended-requires : tie.Need-ended-requires
+ended-requires c κs = search needs
+
 returns : tie.Need-returns
 unfolding reports
-returns c = rw (lt-ltb _ _ (c .before .if1 .taken))
+returns c = rw (c .ended .ensures, lt-ltb _ _ (c .before .before .if1 .taken))
+
+ended-requires-2 : tie.Need-ended-requires-2
+ended-requires-2 c κs = search needs
 
 returns-2 : tie.Need-returns-2
 unfolding reports
-returns-2 c = rw (le-ltb _ _ (c .if1 .left))
+returns-2 c = rw (c .ended2 .ensures, le-ltb _ _ (c .before .if1 .left))
 
 pub told-spec : {M : Type 1} → statement M
 told-spec =
@@ -41,5 +47,7 @@ told-spec =
     sub-ticket
     cast-ticket-3
     sub-t14
+    ended-requires
     returns
+    ended-requires-2
     returns-2)

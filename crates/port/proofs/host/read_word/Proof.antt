@@ -20,10 +20,10 @@ mul-value : tie.Need-mul-value Inv-loop μ-loop
 mul-value c = omega (arith, c .before .before .before .before .loop .inv .2 .below, pow-below (c .before .before .before .before .loop .i) (omega arith))
 
 add-value : tie.Need-add-value Inv-loop μ-loop
-add-value c = omega (arith, c .before .before .before .before .loop .inv .2 .below, pow-below (c .before .before .before .before .loop .i) (omega arith), c .wide .ensures, c .before .before .read .ensures .narrow)
+add-value c = omega (arith, c .before .before .before .before .loop .inv .2 .below, pow-below (c .before .before .before .before .loop .i) (omega arith), c .wide .ensures .0, c .before .before .read .ensures .narrow)
 
 loop-again : tie.Need-loop-again Inv-loop μ-loop
-loop-again c = (omega arith, omega arith, word-turn _ (c .before .before .before .before .loop .i) _ _ _ _ _ (omega arith) (c .wide .ensures) (c .before .before .before .before .loop .inv .2) (c .before .before .read .ensures))
+loop-again c = (omega arith, omega arith, word-turn _ (c .before .before .before .before .loop .i) _ _ _ _ _ (omega arith) (c .wide .ensures .0) (c .before .before .before .before .loop .inv .2) (c .before .before .read .ensures))
 
 returns : tie.Need-returns Inv-loop μ-loop
 returns c = word-end _ _ (c .before .loop .i) _ _ _ _ (omega arith) (c .before .before .write .ensures) (c .before .loop .inv .2)

@@ -5,7 +5,7 @@ use Rattle.registers.proofs.acts.rx_reset.Statement.{statement}
 use Rattle.registers.proofs.acts.rx_reset.Tie as tie
 
 returns : tie.Need-returns
-returns c = rx-reset-does _ _ (c .before .deafen .ensures)
+returns c = rw (c .before .quiet .ensures) (rx-reset-does _ _ (c .before .before .deafen .ensures))
 
 pub rx-reset-spec : {M : Type 1} → statement M
-rx-reset-spec = tie.close (tie.spec (λ c κs. search needs) returns)
+rx-reset-spec = tie.close (tie.spec (λ c κs. search needs) (λ c κs. search needs) returns)

@@ -11,11 +11,17 @@ unfolding whole
 whole-command-spec =
     tie.close
     (tie.spec
-    (λ c. rw (c .if1 .taken))
     (λ c κs. search needs)
-    (λ c. rw (c .erase-all .ensures, ne-eqb _ _ (c .before .before .before .if1 .left), c .before .before .if2 .taken, c .before .if3 .taken))
-    (λ c. rw (ne-eqb _ _ (c .before .before .if1 .left), c .before .if2 .taken, c .if3 .left))
+    (λ c. rw (c .leaving .ensures, c .before .if1 .taken))
     (λ c κs. search needs)
-    (λ c. rw (c .write-all .ensures, ne-eqb _ _ (c .before .before .before .before .if1 .left), ne-eqb _ _ (c .before .before .before .if2 .left), c .before .before .if4 .taken, c .before .if5 .taken))
-    (λ c. rw (ne-eqb _ _ (c .before .before .before .if1 .left), ne-eqb _ _ (c .before .before .if2 .left), c .before .if4 .taken, c .if5 .left))
-    (λ c. rw (ne-eqb _ _ (c .before .before .if1 .left), ne-eqb _ _ (c .before .if2 .left), ne-eqb _ _ (c .if4 .left))))
+    (λ c κs. search needs)
+    (λ c. rw (c .leaving2 .ensures, c .before .erase-all .ensures, ne-eqb _ _ (c .before .before .before .before .if1 .left), c .before .before .before .if2 .taken, c .before .before .if3 .taken))
+    (λ c κs. search needs)
+    (λ c. rw (c .leaving3 .ensures, ne-eqb _ _ (c .before .before .before .if1 .left), c .before .before .if2 .taken, c .before .if3 .left))
+    (λ c κs. search needs)
+    (λ c κs. search needs)
+    (λ c. rw (c .leaving4 .ensures, c .before .write-all .ensures, ne-eqb _ _ (c .before .before .before .before .before .if1 .left), ne-eqb _ _ (c .before .before .before .before .if2 .left), c .before .before .before .if4 .taken, c .before .before .if5 .taken))
+    (λ c κs. search needs)
+    (λ c. rw (c .leaving5 .ensures, ne-eqb _ _ (c .before .before .before .before .if1 .left), ne-eqb _ _ (c .before .before .before .if2 .left), c .before .before .if4 .taken, c .before .if5 .left))
+    (λ c κs. search needs)
+    (λ c. rw (c .leaving6 .ensures, ne-eqb _ _ (c .before .before .before .if1 .left), ne-eqb _ _ (c .before .before .if2 .left), ne-eqb _ _ (c .before .if4 .left))))

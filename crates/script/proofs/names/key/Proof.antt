@@ -43,8 +43,11 @@ shared-slice-read-wide c = search needs
 wide-requires : tie.Need-wide-requires Inv-loop μ-loop
 wide-requires c κs = search needs
 
+cast-n : tie.Need-cast-n Inv-loop μ-loop
+cast-n c = search needs
+
 add-n : tie.Need-add-n Inv-loop μ-loop
-add-n c = omega (arith, c .wide .ensures, c .before .shared-slice-known3 .given (c .before .before .before .before .loop .i))
+add-n c = search needs
 
 add-i : tie.Need-add-i Inv-loop μ-loop
 add-i c = search needs
@@ -53,7 +56,7 @@ loop-less : tie.Need-loop-less Inv-loop μ-loop
 loop-less c = search needs
 
 loop-again : tie.Need-loop-again Inv-loop μ-loop
-loop-again c = (omega arith, rw (c .wide .ensures) (sym (key-more (c .before .before .before .before .loop .n) (c .before .before .before .before .before .before .before .before .before .args .word .now) (c .before .before .before .before .loop .i) (c .before .before .before .loop-test .taken) (c .before .before .if3 .left)) ∙ c .before .before .before .before .loop .inv .1))
+loop-again c = (omega arith, rw (c .wide .ensures .0) (sym (key-more (c .before .before .before .before .loop .n) (c .before .before .before .before .before .before .before .before .before .args .word .now) (c .before .before .before .before .loop .i) (c .before .before .before .loop-test .taken) (c .before .before .if3 .left)) ∙ c .before .before .before .before .loop .inv .1))
 
 returns-4 : tie.Need-returns-4 Inv-loop μ-loop
 unfolding keyOf
@@ -73,6 +76,7 @@ key-spec =
     mul-n
     shared-slice-read-wide
     wide-requires
+    cast-n
     add-n
     add-i
     loop-less

@@ -1,0 +1,7 @@
+-- Why it is so, and two computed facts beside it.
+pub mod Over
+pub mod Unread
+pub mod Cut
+pub mod Reached
+pub mod Kept
+pub mod Refused

@@ -1,0 +1,2 @@
+-- The order, computed.
+mod Examples

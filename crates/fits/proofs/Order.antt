@@ -7,7 +7,7 @@ use lib.ListN.{length}
 use lib.Dec.{eqb, ltb}
 use Rattle.refusal.specs.declared.Refusal.{Refusal}
 use Rattle.refusal.specs.declared.Refusal.the-variants.{StateUnsound, LengthOutside, MakerWrong, ChecksumWrong, SecondaryWrong, OutOfTurn, ArgumentOutside, NeverOpened, AreaShort}
-use Rattle.refusal.specs.Order.{Test, if, Outcome, fine, because, firstOf, numberIn, inOrder, isFrom, from, any}
+use Rattle.refusal.specs.Order.{if, Outcome, because, firstOf, numberIn, inOrder, isFrom, from, any}
 use Rattle.image_rules.specs.declared.Checked.the-variants as checked
 use Rattle.image_rules.specs.Image.{wordAt, checksumOf, secondaryOf, orRefused, checkOf}
 use Rattle.port_rules.specs.declared.Bus.{Bus}

@@ -1,11 +1,8 @@
 -- Before the open the host has read two words of a good frame of 100 bytes: the driver hands up the 96 that are left as a frame. Assumes nothing.
 use mathlib.Core.Path.{_≡_, refl}
-use mathlib.Core.Bool.{true, false}
+use mathlib.Core.Bool.{true}
 use mathlib.Core.List.{List, [], _∷_, _++_, map}
-use Prim.Native.Nat.{ℕ}
 use lib.ListN.{replicate}
-use Rattle.port_rules.specs.Card.{activated}
-use Rattle.port_rules.specs.Sound.{idSound}
 use Rattle.receive_rules.specs.Frame.{isComing, overran, room}
 use Rattle.receive_rules.specs.Wire as wire
 use Rattle.receive_rules.specs.Wire.{passes, begins, marked, ending}
@@ -31,7 +28,7 @@ use Rattle.driver_rules.specs.Areas.{inLook, inFrame}
 use Rattle.driver_rules.specs.Service.{lookTalk}
 use Rattle.driver_rules.specs.Calls.{openCall, serviceCall}
 use Rattle.driver_rules.specs.Paper.{frame}
-use Rattle.runs.specs.Run.{Bench, Areas, Event, Start, Byte, End, Open, Service, Said, served, Earlier, Host, Later, opens, serves, next, said, sayings, permitted, before, since}
+use Rattle.runs.specs.Run.{Start, Byte, End, Open, Service, served, Earlier, Host, Later, opens, serves, next, said, permitted, before, since}
 use Rattle.no_trace.specs.Examples.{start, areas}
 
 unfoldable history : List Earlier

@@ -4,9 +4,8 @@ use mathlib.Core.Bool.{Bool, true, false, cond, not, _&&_, _||_}
 use mathlib.Core.List.{List, [], _∷_}
 use Prim.Native.Nat.{ℕ, zero, suc, _/_, _%_, _+_}
 use lib.Dec.{ltb, eqb}
-use lib.ListN.{take}
 use Rattle.refusal.specs.declared.Refusal.the-variants.{CardUnfit, NeverOpened, AreaShort, BudgetShort}
-use Rattle.bits.proofs.Tests.{of-cond, never, by-test, both}
+use Rattle.bits.proofs.Tests.{of-cond, never, by-test}
 use Rattle.card_rules.specs.declared.Card.{Card}
 use Rattle.card_rules.specs.Adapter.{Adapter}
 use Rattle.card_rules.specs.View.{view}

@@ -1,20 +1,19 @@
 -- The composition. Assumes nothing.
-use mathlib.Core.Path.{_≡_, refl, ap, sym, _∙_, subst, subst⁻¹}
+use mathlib.Core.Path.{_≡_, ap, sym, _∙_, subst, subst⁻¹}
 use mathlib.Core.Bool.{true, false}
-use mathlib.Core.List.{List, [], _∷_, _++_}
-use Prim.Native.Nat.{ℕ}
+use mathlib.Core.List.{[], _∷_, _++_}
 use Rattle.bits.proofs.Tests.{join}
 use Rattle.card_rules.specs.View.{view}
 use Rattle.card_rules.specs.Sound.{sound}
 use Rattle.driver_rules.specs.Driver.{driverSound}
-use Rattle.runs.specs.Run.{Bench, soundBench, Open, Earlier, Said, sayings, after, since, next}
-use Rattle.no_trace.specs.Stretch.{Part, AllDamaged, withFrames, withoutFrames}
+use Rattle.runs.specs.Run.{soundBench, Open, after, since, next}
+use Rattle.no_trace.specs.Stretch.{AllDamaged, withFrames, withoutFrames}
 use Rattle.no_trace.specs.NoTrace.{NoTrace}
 use Rattle.no_trace.proofs.Trace.{no-trace}
-use Rattle.run_calls.specs.Takes.{State, seen, Good, Called, Calls, none, then, CallsBefore}
+use Rattle.run_calls.specs.Takes.{State, seen, Good, none, then}
 use Rattle.run_calls.proofs.Good.{sound-of, driver-of}
 use Rattle.run_calls.proofs.All.{take-the-steps}
-use Rattle.over_calls.specs.Over.{OverCalls, No-trace-over-calls}
+use Rattle.over_calls.specs.Over.{No-trace-over-calls}
 
 bridge : (s : State) → Good s → soundBench (seen s) ≡ true
 bridge s g = join (sound (view (s .card) (s .ram) (s .dir))) (driverSound (s .driver)) (sound-of s g .calm) (driver-of s g)

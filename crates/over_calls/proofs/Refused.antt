@@ -1,13 +1,12 @@
 -- Demand 1, call by call: a contract gives what is changed where the call is not refused, and that nothing is where it is. Assumes nothing.
-use mathlib.Core.Path.{_≡_, refl, sym, ap, _∙_, subst}
+use mathlib.Core.Path.{_≡_, refl, sym, ap, _∙_}
 use mathlib.Core.Bool.{Bool, true, false, cond, not}
-use mathlib.Core.List.{List, []}
+use mathlib.Core.List.{List}
 use Prim.Native.Nat.{ℕ, zero, suc}
 use lib.ListN.{length}
 use lib.Dec.{ltb}
 use Rattle.refusal.specs.declared.Refusal.{Refusal}
 use Rattle.bits.proofs.Tests.{never}
-use Rattle.port_rules.specs.declared.IdState.{IdState}
 use Rattle.port_rules.specs.declared.Bus.{Bus}
 use Rattle.port_rules.specs.Port.{held}
 use Rattle.port_rules.specs.Gathered.{allSound}
@@ -30,7 +29,7 @@ use Rattle.driver_rules.specs.declared.SendAnswer.the-variants as sending
 use Rattle.driver_rules.specs.declared.OpenAnswer.{OpenAnswer}
 use Rattle.driver_rules.specs.declared.SendAnswer.{SendAnswer}
 use Rattle.driver_rules.specs.Paper.{openPaper, sendPaper}
-use Rattle.driver_rules.specs.Calls.{soundState, openCall, sendCall, Opens, Sends}
+use Rattle.driver_rules.specs.Calls.{soundState, openCall, sendCall}
 use Rattle.fits.specs.Agree.{isRefusal, isRefused}
 use Rattle.fits.specs.Order.{statusRead, freeRead}
 use Rattle.over_calls.specs.Refused.{Same, Card-keeps, Driver-keeps, isNo, Port-keeps, A-refused-call-changes-nothing}

@@ -1,7 +1,6 @@
 -- The ID port keeps a bench unread. Assumes nothing.
-use mathlib.Core.Path.{_≡_, refl}
+use mathlib.Core.Path.{refl}
 use mathlib.Core.Bool.{Bool, true, false, cond}
-use mathlib.Core.List.{List}
 use Prim.Native.Nat.{ℕ, _<_}
 use Rattle.port_rules.specs.declared.IdState.{IdState}
 use Rattle.port_rules.specs.Card.{idWrite, idAfterRead}

@@ -24,6 +24,7 @@ use Rattle.sends_carried.specs.Packets.{areBytes, stored, padded, packet
 use Rattle.sends_carried.specs.Carried.{A-success-tells-the-bytes, Sends-are-carried, Clear-states}
 use Rattle.sends_carried.proofs.Quiet.{Same, open-quiet, service-quiet}
 use Rattle.sends_carried.proofs.Stored.{answers, stored-whole}
+use Rattle.sends_carried.proofs.Host.{any-told}
 
 -- ---- a success
 
@@ -31,8 +32,7 @@ some-stored : (x : tx.Tx) → ready x ≡ true → tx.any (x .queue .packets) �
 some-stored x r = both (x .reports .sender .on && not (x .queue .failed)) (tx.any (x .queue .packets)) r .1
 
 pub tells : A-success-tells-the-bytes
-unfolding said next toldOf card.success settle tx.success others
-tells packet newer b e r = (rw (r, e), rw (r, e))
+tells packet newer b e r = any-told (stored packet) newer b e r
 
 -- ---- one event
 

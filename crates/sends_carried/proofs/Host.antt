@@ -1,17 +1,16 @@
 -- What a host writes word by word is one packet, and what the wire is told of it. Assumes nothing.
-use mathlib.Core.Path.{_≡_, refl, sym, ap, _∙_}
+use mathlib.Core.Path.{_≡_, ap, _∙_}
 use mathlib.Core.Bool.{Bool, true, false, cond}
 use mathlib.Core.List.{List, [], _∷_, _++_}
-use Prim.Native.Nat.{ℕ, suc, _+_, _-_, _*_, _/_, _%_, _≤_}
+use Prim.Native.Nat.{ℕ, _+_, _-_, _/_, _%_, _≤_}
 use native.Mathlib.Omega.{arith}
 use borrow.Author.Tests.{leb-true}
 use lib.ListN.{length, take, replicate}
 use lib.Dec.{eqb, leb}
 use Rattle.bits.specs.Bits.{has}
 use Rattle.bits.proofs.Tests.{both}
-use Rattle.store.specs.Store.{Frame, begun, lenOf, round4}
+use Rattle.store.specs.Store.{Frame, lenOf, round4}
 use Rattle.transmit_rules.specs.Queue.{Queue, noPart, room, free}
-use Rattle.transmit_rules.specs.Write.{sized}
 use Rattle.transmit_rules.specs.Whole.{puts, bytesOf}
 use Rattle.transmit_rules.specs.Leave as leave
 use Rattle.transmit_rules.specs.Leave.{toldOf, others}
@@ -19,7 +18,7 @@ use Rattle.transmit_rules.specs.Tx as tx
 use Rattle.transmit_rules.specs.Tx.{ready}
 use Rattle.transmit_rules.proofs.Whole.{written-whole}
 use Rattle.card_rules.specs.Adapter.{Adapter}
-use Rattle.card_rules.specs.Room.{txRoom, txFree}
+use Rattle.card_rules.specs.Room.{txRoom}
 use Rattle.card_rules.specs.Event as card
 use Rattle.card_rules.specs.Settle.{settle}
 use Rattle.driver_rules.specs.Talk.{afterWrites}
@@ -59,15 +58,16 @@ bit-13 w =
     let same : w / 2048 / 4 ≡ w / 8192 = omega arith in
     ap (λ (n : ℕ). eqb (n % 2) 1) same
 
-tells : (p : Frame) (newer : List Frame) (b : Bench) → b .adapter .tx .queue .packets ≡ p ∷ newer → ready (b .adapter .tx) ≡ true →
+-- of any packet
+pub any-told : (p : Frame) (newer : List Frame) (b : Bench) → b .adapter .tx .queue .packets ≡ p ∷ newer → ready (b .adapter .tx) ≡ true →
     (said run.Sent b ≡ run.told (leave.told p) ∷ []) × (next run.Sent b .adapter .tx .queue .packets ≡ newer)
 unfolding said next toldOf card.success settle tx.success others
-tells p newer b e r = (rw (r, e), rw (r, e))
+any-told p newer b e r = (rw (r, e), rw (r, e))
 
 goes : (w : ℕ) (ds : List ℕ) (newer : List Frame) (b : Bench) → b .adapter .tx .queue .packets ≡ packet w ds ∷ newer → ready (b .adapter .tx) ≡ true →
     (said run.Sent b ≡ run.told (onTheWire w ds) ∷ []) × (next run.Sent b .adapter .tx .queue .packets ≡ newer)
 goes w ds newer b e r =
-    let t = tells (packet w ds) newer b e r in
+    let t = any-told (packet w ds) newer b e r in
     let bytes : List ℕ = take (lenOf w) (bytesOf ds) in
     (t .0 ∙ ap (λ (c : Bool). run.told (bytes ++ replicate (cond c 0 (60 - length bytes)) 0) ∷ []) (bit-13 w), t .1)
 

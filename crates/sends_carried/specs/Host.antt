@@ -15,7 +15,7 @@ use Rattle.card_rules.specs.Adapter.{Adapter}
 use Rattle.card_rules.specs.Room.{txFree}
 use Rattle.driver_rules.specs.Talk.{afterWrites}
 use Rattle.runs.specs.Run as run
-use Rattle.runs.specs.Run.{Bench, withAdapter, said, next}
+use Rattle.runs.specs.Run.{Bench, said, next}
 
 -- The preamble w, whose length lies in 6 to 1,792, any second word, and the data as words, low byte first, padded to 4.
 pub record Whole (w : ℕ) (ds : List ℕ) : Type 0 where

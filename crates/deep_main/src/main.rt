@@ -48,15 +48,8 @@ fn crowded() -> usize {
 }
 
 fn write_number(n: usize) {
-    let out = [
-        b'0' + (n / 10000 % 10) as u8,
-        b'0' + (n / 1000 % 10) as u8,
-        b'0' + (n / 100 % 10) as u8,
-        b'0' + (n / 10 % 10) as u8,
-        b'0' + (n % 10) as u8,
-        b'\n',
-    ];
-    io::write_all(STDOUT_FILENO, &out);
+    io::print_decimal(STDOUT_FILENO, n as u64);
+    io::write_all(STDOUT_FILENO, b"\n");
 }
 
 fn main() {

@@ -8,6 +8,9 @@ use transmit_rules::Outcomes;
 use transmit_rules::Sender;
 use transmit_rules::Statuses;
 
+// The TX Available and TX Start thresholds at power-on and reset: above every count, so that they are disabled.
+const THRESHOLD_DEFAULT: u16 = 2044;
+
 // Power-on.
 pub fn fresh() -> Outcomes
     ensures { λ r. ⌜ Reported r outcome.atPowerOn ⌝ }
@@ -15,8 +18,8 @@ pub fn fresh() -> Outcomes
     let sender = Sender {
         on: false,
         available: false,
-        level: 2044,
-        start: 2044,
+        level: THRESHOLD_DEFAULT,
+        start: THRESHOLD_DEFAULT,
     };
     let entries = [0u8; 31];
     let statuses = Statuses {
@@ -119,8 +122,8 @@ pub fn reset(o: Outcomes) -> Outcomes
 {
     let mut next = o;
     next.sender.on = false;
-    next.sender.level = 2044;
-    next.sender.start = 2044;
+    next.sender.level = THRESHOLD_DEFAULT;
+    next.sender.start = THRESHOLD_DEFAULT;
     next
 }
 
@@ -156,7 +159,7 @@ pub fn acknowledge(o: Outcomes, named: bool) -> Outcomes
     let mut next = o;
     if cleared {
         next.sender.available = false;
-        next.sender.level = 2044;
+        next.sender.level = THRESHOLD_DEFAULT;
         return next;
     }
     next

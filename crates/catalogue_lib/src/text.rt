@@ -18,7 +18,7 @@ pub fn warn_number(n: usize) {
 }
 
 pub fn warn_address(address: u64) {
-    hex(STDERR_FILENO, address, 12);
+    print_hex(STDERR_FILENO, address, 12);
 }
 
 // Says so where standard output did not take all.
@@ -105,7 +105,7 @@ pub fn added(number: u16, address: u64) {
     let mut whole = tell(b"version ");
     whole = io::print_decimal(STDOUT_FILENO, number as u64) & whole;
     whole = tell(b" of ") & whole;
-    whole = hex(STDOUT_FILENO, address, 12) & whole;
+    whole = print_hex(STDOUT_FILENO, address, 12) & whole;
     whole = tell(b"\n") & whole;
     told(whole);
 }
@@ -113,23 +113,16 @@ pub fn added(number: u16, address: u64) {
 // A word of an image that another image has otherwise.
 pub fn changed(word: usize, old: u16, new: u16) -> bool {
     let mut whole = tell(b"word ");
-    whole = hex(STDOUT_FILENO, word as u64, 2) & whole;
+    whole = print_hex(STDOUT_FILENO, word as u64, 2) & whole;
     whole = tell(b": ") & whole;
-    whole = hex(STDOUT_FILENO, old as u64, 4) & whole;
+    whole = print_hex(STDOUT_FILENO, old as u64, 4) & whole;
     whole = tell(b" -> ") & whole;
-    whole = hex(STDOUT_FILENO, new as u64, 4) & whole;
+    whole = print_hex(STDOUT_FILENO, new as u64, 4) & whole;
     tell(b"\n") & whole
 }
 
-fn hex_digit(d: u8) -> u8 {
-    if d < 10 {
-        return 48 + d;
-    }
-    55 + d % 16
-}
-
 // Upper-case hexadecimal digits, as many as asked, of the number's low end.
-pub fn hex(fd: i32, number: u64, width: usize) -> bool
+pub fn print_hex(fd: i32, number: u64, width: usize) -> bool
     requires { ⌜ width ≤ 12 ⌝ }
 {
     let mut digits = [48u8; 12];
@@ -137,7 +130,7 @@ pub fn hex(fd: i32, number: u64, width: usize) -> bool
     let mut at = 12;
     while 0 < at {
         at = at - 1;
-        digits[at] = hex_digit((left % 16) as u8);
+        digits[at] = hex::digit((left % 16) as u16);
         left = left / 16;
     }
     let first = 12 - width;
@@ -163,7 +156,7 @@ pub fn cards(file: &[u8]) {
                     if some {
                         whole = tell(b"\n") & whole;
                     }
-                    whole = hex(
+                    whole = print_hex(
                         STDOUT_FILENO,
                         catalogue_read::address_at(file, start, len),
                         12,

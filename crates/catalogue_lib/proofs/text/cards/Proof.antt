@@ -48,8 +48,8 @@ tell-requires-2 c κs = search needs
 address-at-requires : tie.Need-address-at-requires Inv-loop μ-loop
 address-at-requires c κs = search needs
 
-hex-requires : tie.Need-hex-requires Inv-loop μ-loop
-hex-requires c κs = search needs
+print-hex-requires : tie.Need-print-hex-requires Inv-loop μ-loop
+print-hex-requires c κs = search needs
 
 slice-aggregate-tell-3 : tie.Need-slice-aggregate-tell-3 Inv-loop μ-loop
 slice-aggregate-tell-3 c = search needs
@@ -92,7 +92,7 @@ cards-spec =
     slice-aggregate-tell-2
     tell-requires-2
     address-at-requires
-    hex-requires
+    print-hex-requires
     slice-aggregate-tell-3
     tell-requires-3
     value-number-requires

@@ -1,12 +1,12 @@
--- `text::hex` is safe and ends: the place falls to 0, and stays within the digits.
+-- `text::print_hex` is safe and ends: the place falls to 0, and stays within the digits.
 -- Assumes nothing.
 use Prim.Native.Nat.{_≤_}
 use native.Mathlib.Omega.{arith}
 use mathlib.Core.Path.{_≡_}
 use lib.ListN.{length, length-set}
 use borrow.Author.Needs.{needs}
-use Rattle.catalogue_lib.proofs.text.hex.Statement.{statement}
-use Rattle.catalogue_lib.proofs.text.hex.Tie as tie
+use Rattle.catalogue_lib.proofs.text.print_hex.Statement.{statement}
+use Rattle.catalogue_lib.proofs.text.print_hex.Tie as tie
 
 abbrev Inv-loop : tie.InvT-loop
 Inv-loop fd number width digits₀ left₀ at₀ digits left at = (at ≤ 12) × (length digits ≡ 12)
@@ -20,11 +20,11 @@ loop-holds c = search needs
 sub-at : tie.Need-sub-at Inv-loop μ-loop
 sub-at c = search needs
 
-cast-hex-digit : tie.Need-cast-hex-digit Inv-loop μ-loop
-cast-hex-digit c = search needs
+cast-digit : tie.Need-cast-digit Inv-loop μ-loop
+cast-digit c = search needs
 
-hex-digit-requires : tie.Need-hex-digit-requires Inv-loop μ-loop
-hex-digit-requires c κs = search needs
+digit-requires : tie.Need-digit-requires Inv-loop μ-loop
+digit-requires c κs = search needs
 
 array-write-digits : tie.Need-array-write-digits Inv-loop μ-loop
 array-write-digits c = search needs
@@ -53,16 +53,16 @@ write-all-requires c κs = search needs
 returns : tie.Need-returns Inv-loop μ-loop
 returns c = search needs
 
-pub hex-spec : {M : Type 1} → statement M
-hex-spec =
+pub print-hex-spec : {M : Type 1} → statement M
+print-hex-spec =
     tie.close
     (tie.spec
     Inv-loop
     μ-loop
     loop-holds
     sub-at
-    cast-hex-digit
-    hex-digit-requires
+    cast-digit
+    digit-requires
     array-write-digits
     loop-less
     loop-again

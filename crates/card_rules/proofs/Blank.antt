@@ -9,7 +9,7 @@ use Rattle.store.specs.Store as store
 use Rattle.store.specs.Store.{frames, roomOf}
 use Rattle.port_rules.specs.declared.IdState.{IdState}
 use Rattle.port_rules.specs.Card.{idFresh}
-use Rattle.receive_rules.specs.Reading.{deafened}
+use Rattle.receive_rules.specs.Reading.{rxEmpty, deafened}
 use Rattle.receive_rules.specs.View.{rxArea}
 use Rattle.transmit_rules.specs.Queue.{empty}
 use Rattle.transmit_rules.specs.QueueView.{partOf, txArea}
@@ -20,7 +20,7 @@ use Rattle.transmit_rules.proofs.Steps.{emptied}
 use Rattle.card_rules.specs.declared.Card.{Card}
 use Rattle.card_rules.specs.Update.{withId, withTx}
 use Rattle.card_rules.specs.Room.{rxSize, txSize}
-use Rattle.card_rules.specs.Power.{quietRx, powerOn, reset}
+use Rattle.card_rules.specs.Power.{powerOn, reset}
 use Rattle.card_rules.specs.View.{view, Is, Blank, Does}
 use Rattle.card_rules.proofs.Ranges.{rx-small, tx-small}
 
@@ -55,7 +55,7 @@ started words wire i o =
             station = replicate 6 0;
           };
       prom = record { last = 0; writable = false };
-      receive = record { receiver = quietRx wire .receiver; frames = 0 };
+      receive = record { receiver = rxEmpty wire .receiver; frames = 0 };
       transmit = record { fifo = emptied; outcomes = o };
     }
 

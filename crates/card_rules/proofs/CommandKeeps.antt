@@ -13,7 +13,7 @@ use Rattle.port_rules.specs.Sound.{idSound}
 use Rattle.receive_rules.specs.Frame.{Rx}
 use Rattle.receive_rules.specs.Sound as rxs
 use Rattle.receive_rules.specs.Reading as reading
-use Rattle.receive_rules.specs.Reading.{deafened}
+use Rattle.receive_rules.specs.Reading.{rxEmpty, deafened}
 use Rattle.receive_rules.specs.Update.{withOn, withThreshold, withReceiver}
 use Rattle.receive_rules.proofs.Facts.{sound-told, kept-shown}
 use Rattle.receive_rules.proofs.Keeps as rxk
@@ -21,13 +21,13 @@ use Rattle.transmit_rules.specs.Reports.{Reports}
 use Rattle.transmit_rules.specs.Outcome as outcome
 use Rattle.transmit_rules.proofs.OutcomesKeeps.{off-keeps, enable-keeps, set-level-keeps, set-start-keeps}
 use Rattle.transmit_rules.specs.Tx as txs
-use Rattle.transmit_rules.specs.Tx.{Tx}
+use Rattle.transmit_rules.specs.Tx.{Tx, txEmpty}
 use Rattle.transmit_rules.proofs.Keeps as txk
 use Rattle.card_rules.specs.declared.Select.{Select}
 use Rattle.card_rules.specs.Adapter.{Adapter}
 use Rattle.card_rules.specs.Update.{withId, withSelect, withRx, withTx, selectWindow, selectMask, selectZero, selectFilter}
 use Rattle.card_rules.specs.Room.{rxRoom, txRoom}
-use Rattle.card_rules.specs.Power.{powerOn, reset, quietRx, quietTx}
+use Rattle.card_rules.specs.Power.{powerOn, reset}
 use Rattle.card_rules.specs.Sound.{isMask, selectSound, kept, sound}
 use Rattle.card_rules.proofs.Sides.{rx-of, tx-of, registers-of, kept-by, kept-of, rx-kept, tx-kept, registers-kept, identified, idle, selected}
 use Rattle.card_rules.specs.Command.{reported, receiving, rxReset, acknowledge, mask, act, command, commanded}
@@ -92,8 +92,8 @@ pub power-on-kept : (words : List ℕ) (wire : ℕ) → wire < 2 → kept (power
 unfolding powerOn selectSound idSound
 power-on-kept words wire w =
     let a = powerOn words wire in
-    kept-by a (kept-shown (rxRoom a) (quietRx wire) (sound-told (rxRoom a) (quietRx wire) (rxk.empty-sound (rxRoom a) wire 2044 false false w (omega arith)) .0))
-    (txk.sound-kept (txRoom a) quietTx (txk.power-on-sound (txRoom a))) refl
+    kept-by a (kept-shown (rxRoom a) (rxEmpty wire) (sound-told (rxRoom a) (rxEmpty wire) (rxk.empty-sound (rxRoom a) wire 2044 false false w (omega arith)) .0))
+    (txk.sound-kept (txRoom a) txEmpty (txk.power-on-sound (txRoom a))) refl
 
 module _ (a : Adapter) (s : sound a ≡ true) where
   pub reset-keeps : kept (reset a) ≡ true

@@ -6,7 +6,7 @@ use Rattle.bits.specs.Bits.{has}
 use Rattle.store.specs.Store.{frames}
 use Rattle.receive_rules.specs.Update.{withEarly}
 use Rattle.receive_rules.specs.Reading as reading
-use Rattle.receive_rules.specs.Reading.{deafened}
+use Rattle.receive_rules.specs.Reading.{rxEmpty, deafened}
 use Rattle.transmit_rules.specs.Queue.{empty}
 use Rattle.transmit_rules.specs.QueueView.{partOf}
 use Rattle.transmit_rules.specs.declared.Outcomes.{Outcomes}
@@ -18,7 +18,6 @@ use Rattle.transmit_rules.specs.Tx.{withReports}
 use Rattle.transmit_rules.proofs.Steps.{emptied}
 use Rattle.card_rules.specs.declared.Card.{Card}
 use Rattle.card_rules.specs.Update.{withSelect, withRx, withTx, selectFilter}
-use Rattle.card_rules.specs.Power.{quietRx}
 use Rattle.card_rules.specs.Groups.{cardSelect, cardLines, cardReceive, cardReceiver, cardTransmit, cardOutcomes}
 use Rattle.card_rules.specs.View.{view, Is, Does}
 use Rattle.card_rules.proofs.Blank.{frames-packed, packets-packed}
@@ -26,13 +25,13 @@ use Rattle.card_rules.specs.Command.{rxReset, txReset, acknowledge}
 
 module _ (c : Card) where
   abbrev deaf : ℕ → Card
-  deaf wire = cardReceive (record { receiver = quietRx wire .receiver; frames = 0 }) (cardSelect (selectFilter 0 (c .select)) c)
+  deaf wire = cardReceive (record { receiver = rxEmpty wire .receiver; frames = 0 }) (cardSelect (selectFilter 0 (c .select)) c)
 
   pub rx-reset-does : (wire : ℕ) → wire ≡ deafened (c .receive .receiver .wire) → Does c (deaf wire) rxReset
   unfolding view reading.rxReset frames
   rx-reset-does wire e ram dir h =
       record {
-        shows = ap (λ (w : ℕ). withSelect (selectFilter 0 (c .select)) (withRx (quietRx w) (view c ram dir))) e;
+        shows = ap (λ (w : ℕ). withSelect (selectFilter 0 (c .select)) (withRx (rxEmpty w) (view c ram dir))) e;
         held =
             record {
               ram-long = h .ram-long;

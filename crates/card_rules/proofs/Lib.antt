@@ -10,6 +10,7 @@ pub mod Ends
 pub mod Quiet
 pub mod Checked
 pub mod RegsExamples
+mod LineExamples
 -- EEPROM commands
 pub mod SetupExamples
 -- the commands

@@ -9,6 +9,7 @@ use Rattle.card_rules.specs.Adapter.{Adapter}
 use Rattle.card_rules.specs.Update.{withSelect, withConfig, withTx, selectWindow, configFirst}
 use Rattle.card_rules.specs.Room.{txSize}
 use Rattle.card_rules.specs.Power.{powerOn}
+use Rattle.card_rules.specs.Command.{commanded, command, act}
 use Rattle.card_rules.specs.Read.{window0, window1, window3, window5, wordAt}
 
 -- the word at an offset of a window
@@ -31,6 +32,34 @@ start-256 = refl
 available-512 : reads 5 0x02 thresholds ≡ 512
 unfolding reads thresholds wordAt window5 powerOn
 available-512 = refl
+
+-- each register of window 5 after its command, and no other: the argument's bits that it keeps
+after : ℕ → Adapter
+after command = commanded command (commanded 0x0805 (powerOn [] 0))
+
+early-1001 : reads 5 0x06 (after 0x8BE9) ≡ 1001
+unfolding reads after wordAt window5 commanded command act powerOn
+early-1001 = refl
+
+available-1000 : reads 5 0x02 (after 0x93EB) ≡ 1000
+unfolding reads after wordAt window5 commanded command act powerOn
+available-1000 = refl
+
+start-1000 : reads 5 0x00 (after 0x9BEB) ≡ 1000
+unfolding reads after wordAt window5 commanded command act powerOn
+start-1000 = refl
+
+filter-13 : (reads 5 0x08 (after 0x801D) ≡ 13) × ((reads 5 0x0A (after 0x801D) ≡ 0) × (reads 5 0x0C (after 0x801D) ≡ 0))
+unfolding reads after wordAt window5 commanded command act powerOn
+filter-13 = (refl, (refl, refl))
+
+mask-A6 : (reads 5 0x0A (after 0x71A7) ≡ 0xA6) × ((reads 5 0x08 (after 0x71A7) ≡ 0) × (reads 5 0x0C (after 0x71A7) ≡ 0))
+unfolding reads after wordAt window5 commanded command act powerOn
+mask-A6 = (refl, (refl, refl))
+
+zero-5A : (reads 5 0x0C (after 0x795B) ≡ 0x5A) × ((reads 5 0x08 (after 0x795B) ≡ 0) × (reads 5 0x0A (after 0x795B) ≡ 0))
+unfolding reads after wordAt window5 commanded command act powerOn
+zero-5A = (refl, (refl, refl))
 
 -- after one preamble word TX Free is 3,070 of 3,072; window 1 shows it cut to a multiple of 4, window 3 the exact one
 preamble : Adapter

@@ -1,6 +1,6 @@
 -- The contract of each public call, by its name. Assumes nothing.
 use mathlib.Core.Path.{_≡_}
-use mathlib.Core.Bool.{Bool}
+use mathlib.Core.Bool.{Bool, true}
 use mathlib.Core.List.{List}
 use Prim.Native.Nat.{ℕ}
 use lib.ListN.{length}
@@ -16,7 +16,9 @@ use Rattle.card_rules.specs.Event as event
 use Rattle.card_rules.specs.declared.AfterRead.{AfterRead}
 use Rattle.card_rules.specs.declared.AfterCall.{AfterCall}
 use Rattle.card_rules.specs.declared.AfterSuccess.{AfterSuccess}
-use Rattle.card_rules.specs.Calls.{value, done, readReply, doneReply, toldReply, judged, isWord, isByte, onWire, offWire, Call, Area}
+use Rattle.card_rules.specs.declared.Read.{Read}
+use Rattle.card_rules.specs.Line.{interruptLine}
+use Rattle.card_rules.specs.Calls.{value, done, replying, readReply, doneReply, toldReply, judged, isWord, isByte, onWire, offWire, Call, Area}
 
 abbrev pub power-on : List ℕ → Card → Type 0
 power-on words r = (ram dir : List ℕ) → length ram ≡ 8192 → length dir ≡ 1110 → Stands r ram dir (powerOn words 0)
@@ -76,3 +78,7 @@ module _ (c : Card) (ram dir : List ℕ) where
   seat i r =
       Call (judged (soundCard c ram dir) (idSound i) 1) (doneReply (r .answer)) done
       c (r .card) ram dir ram dir (event.seat i (view c ram dir))
+
+  -- The interrupt line that the card drives; it is handed back as it came, since nothing of it is lent to be changed.
+  abbrev pub interrupt-line : Read → Type 0
+  interrupt-line r = readReply r ≡ replying (judged (soundCard c ram dir) true 1) (value (interruptLine (view c ram dir)))

@@ -7,6 +7,7 @@ pub mod Status
 pub mod Settle
 pub mod Power
 pub mod Sound
+pub mod Line
 pub mod Groups
 pub mod View
 -- EEPROM commands

@@ -4,28 +4,9 @@ use mathlib.Core.Bool.{false}
 use Prim.Native.Nat.{ℕ}
 use lib.ListN.{getD, replicate}
 use Rattle.port_rules.specs.Card.{idFresh}
-use Rattle.receive_rules.specs.Frame.{Rx}
-use Rattle.receive_rules.specs.Reading.{earlyDefault, deafened}
-use Rattle.transmit_rules.specs.Queue.{empty}
-use Rattle.transmit_rules.specs.Outcome.{atPowerOn}
-use Rattle.transmit_rules.specs.Tx.{Tx}
+use Rattle.receive_rules.specs.Reading.{rxEmpty, deafened}
+use Rattle.transmit_rules.specs.Tx.{txEmpty}
 use Rattle.card_rules.specs.Adapter.{Adapter}
-
--- The receiver is off, and the store is empty.
-abbrev pub quietRx : ℕ → Rx
-quietRx wire =
-    record {
-      receiver = record { on = false; failed = false; early = false; told = false; threshold = earlyDefault; read = 0; wire = wire };
-      frames = [];
-    }
-
--- The transmitter is off, and FIFO and status stack are empty.
-abbrev pub quietTx : Tx
-quietTx =
-    record {
-      queue = empty;
-      reports = atPowerOn;
-    }
 
 -- Power-on with these EEPROM words: inactive, window 0, masks and filter 0, the three thresholds 2,044.
 -- Words 03h, 09h, 12h and 13h are loaded (word 08h by the ID state). `wire` is what the wire was doing.
@@ -45,8 +26,8 @@ powerOn words wire =
             station = replicate 6 0;
           };
       prom = record { last = 0; writable = false };
-      rx = quietRx wire;
-      tx = quietTx;
+      rx = rxEmpty wire;
+      tx = txEmpty;
     }
 
 -- Global Reset returns to power-on; a frame on the wire is ignored to its end.

@@ -1,10 +1,9 @@
 // The driver's public calls: open, send, service and hand_up. Each tests the state it is handed, and no refusal changes anything.
 ghost use mathlib.Core.Path.{_≡_};
 ghost use lib.ListN.{length};
-ghost use denote.Ref.{ptr};
 ghost use Rattle.driver_rules.specs.declared.Answer.the-variants.{Refused};
 ghost use Rattle.driver_rules.specs.Calls.{soundState, Opens, Sends, Services};
-ghost use Rattle.driver_rules.specs.HandUp.{area, handed};
+ghost use Rattle.driver_rules.specs.HandUp.{HandsUp};
 use card_rules::Card;
 use driver_rules::Answer;
 use driver_rules::Driver;
@@ -100,7 +99,7 @@ pub fn service(
 
 // The part of the areas that a frame of n bytes was handed up in; empty if its area does not hold n bytes.
 pub fn hand_up<'a>(ahead: &'a [u8], frame: &'a [u8], n: usize) -> &'a [u8]
-    ensures { λ r. ⌜ (now r ≡ handed (now (ahead .entry)) (now (frame .entry)) n) × (ptr r ≡ area n (ptr (ahead .entry)) (ptr (frame .entry))) ⌝ }
+    ensures { λ r. ⌜ HandsUp (ahead .entry) (frame .entry) n r ⌝ }
 {
     if n <= items::sizes::LOOKAHEAD_AREA {
         if n <= ahead.len() {

@@ -10,23 +10,27 @@ use Rattle.transmit_rules.specs.Leave.{toldOf}
 use Rattle.card_rules.specs.declared.Card.{Card}
 use Rattle.card_rules.specs.View.{view}
 use Rattle.card_rules.specs.Calls.{value, done, Area}
-use Rattle.fits.specs.Fits.{Is, CardCalls, SameText, Nothing-else-fits}
+use Rattle.fits.specs.Fits.{Exactly, OneLine, text, CardCalls, Nothing-else-fits}
 use Rattle.fits.proofs.Card.{one-answer}
 use Rattle.fits.proofs.Driver.{driver-calls}
 
-module _ {A B : Type 0} where
-  is : (shows : A → B) (wanted : B) → Is shows wanted
-  is shows wanted r r′ k k′ = k ∙ sym k′
+module _ {A B : Type 0} (shows : A → B) (wanted : B) where
+  exactly : Exactly (λ r. shows r ≡ wanted) shows wanted
+  exactly = record { only = λ r k. k; met = λ r k. k }
 
 same-area : (n : ℕ) (told out x x′ : List ℕ) → Area n told out x → Area n told out x′ → x ≡ x′
 unfolding Area
 same-area zero told out x x′ k k′ = k ∙ sym k′
 same-area (suc n) told out x x′ k k′ = k ∙ sym k′
 
-same-text : (text : List ℕ) (r r′ : Text) → Says text (r .len) (r .bytes) → Says text (r′ .len) (r′ .bytes) → SameText r r′
-same-text text r r′ k k′ =
-    let same : take (r .len) (r .bytes) ≡ take (r′ .len) (r′ .bytes) = k .says ∙ sym (k′ .says) in
-    (k .whole ∙ (ap length same ∙ sym (k′ .whole)), same)
+one-line : (line : List ℕ) → OneLine (λ r. Says line (r .len) (r .bytes)) line
+one-line line =
+    record {
+      says = λ r k. k .says;
+      one = λ r r′ k k′.
+          let same : text r ≡ text r′ = k .says ∙ sym (k′ .says) in
+          (k .whole ∙ (ap length same ∙ sym (k′ .whole)), same);
+    }
 
 card-calls : (c : Card) (ram dir : List ℕ) → CardCalls c ram dir
 card-calls c ram dir =
@@ -42,6 +46,7 @@ card-calls c ram dir =
       success-area = same-area _ (toldOf (view c ram dir .tx .queue .packets));
       collisions = one-answer done refl c ram dir _ _ _ _ _ (λ r k. k);
       seat = λ i. one-answer done refl c ram dir _ _ _ _ _ (λ r k. k);
+      interrupt-line = exactly _ _;
     }
 
 pub nothing-else : Nothing-else-fits
@@ -51,19 +56,19 @@ nothing-else =
       card = card-calls;
       driver = driver-calls;
       hand-up = λ look frame n r r′ k k′. (k .0 ∙ sym (k′ .0), k .1 ∙ sym (k′ .1));
-      id-port = λ b x. record { port-write = λ byte. is _ _; port-read = is _ _; find-cards = is _ _; activate-card = λ tag base. is _ _ };
-      fresh = λ words. is _ _;
-      id-sound = λ s. is _ _;
-      id-write = λ s x byte. is _ _;
-      id-bit = λ s x. is _ _;
-      id-after-read = λ s x bus. is _ _;
-      place-of = λ w. is _ _;
-      byte-at = λ bytes place. is _ _;
-      word-at = λ bytes w. is _ _;
-      checksum = λ bytes. is _ _;
-      secondary = λ bytes. is _ _;
-      check = λ bytes. is _ _;
-      line = λ found. same-text (lineOf found);
-      line-judged = λ bytes. same-text (lineOf (checkOf bytes));
-      number = λ why. is _ _;
+      id-port = λ b x. record { port-write = λ byte. exactly _ _; port-read = exactly _ _; find-cards = exactly _ _; activate-card = λ tag base. exactly _ _ };
+      fresh = λ words. exactly _ _;
+      id-sound = λ s. exactly _ _;
+      id-write = λ s x byte. exactly _ _;
+      id-bit = λ s x. exactly _ _;
+      id-after-read = λ s x bus. exactly _ _;
+      place-of = λ w. exactly _ _;
+      byte-at = λ bytes place. exactly _ _;
+      word-at = λ bytes w. exactly _ _;
+      checksum = λ bytes. exactly _ _;
+      secondary = λ bytes. exactly _ _;
+      check = λ bytes. exactly _ _;
+      line = λ found. one-line (lineOf found);
+      line-judged = λ bytes. one-line (lineOf (checkOf bytes));
+      number = λ why. exactly _ _;
     }

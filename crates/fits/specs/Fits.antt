@@ -1,30 +1,35 @@
 -- Nothing else fits: a field for each public call, over any state and arguments. Assumes nothing.
 use mathlib.Core.Path.{_≡_}
-use mathlib.Core.Bool.{Bool}
+use mathlib.Core.Bool.{Bool, true}
 use mathlib.Core.List.{List}
 use Prim.Native.Nat.{ℕ, suc}
 use lib.ListN.{length, take}
 use denote.Ref.{RefT, ptr, now}
 use Rattle.refusal.specs.declared.Refusal.{Refusal}
 use Rattle.refusal.specs.Number.{numberOf}
+use Rattle.refusal.specs.Contracts as refusal
 use Rattle.image_rules.specs.declared.WordOffset.{WordOffset}
 use Rattle.image_rules.specs.declared.BytePlace.{BytePlace}
 use Rattle.image_rules.specs.declared.Checked.{Checked}
 use Rattle.image_rules.specs.Image as image
 use Rattle.image_rules.specs.declared.Text.{Text}
-use Rattle.image_rules.specs.Line.{lineOf, Says}
+use Rattle.image_rules.specs.Line.{lineOf}
+use Rattle.image_rules.specs.Contracts as of-image
 use Rattle.port_rules.specs.declared.IdState.{IdState}
 use Rattle.port_rules.specs.Card.{idFresh, idWrite, idBit, idAfterRead}
 use Rattle.port_rules.specs.Sound.{idSound}
 use Rattle.port_rules.specs.declared.Bus.{Bus}
 use Rattle.port_rules.specs.Calls as port
+use Rattle.port_rules.specs.Contracts as at-port
 use Rattle.transmit_rules.specs.Tx.{ready}
 use Rattle.card_rules.specs.declared.Card.{Card}
 use Rattle.card_rules.specs.View.{view, soundCard}
 use Rattle.card_rules.specs.declared.AfterRead.{AfterRead}
 use Rattle.card_rules.specs.declared.AfterCall.{AfterCall}
 use Rattle.card_rules.specs.declared.AfterSuccess.{AfterSuccess}
-use Rattle.card_rules.specs.Calls.{Reply, refused, readReply, doneReply, toldReply, judged, isWord, isByte, onWire, offWire}
+use Rattle.card_rules.specs.declared.Read.{Read}
+use Rattle.card_rules.specs.Calls.{Reply, refused, value, replying, readReply, doneReply, toldReply, judged, isWord, isByte, onWire, offWire}
+use Rattle.card_rules.specs.Line.{interruptLine}
 use Rattle.card_rules.specs.Contracts as contract
 use Rattle.driver_rules.specs.declared.Driver.{Driver}
 use Rattle.driver_rules.specs.declared.Opened.{Opened}
@@ -32,7 +37,7 @@ use Rattle.driver_rules.specs.declared.Sent.{Sent}
 use Rattle.driver_rules.specs.declared.Serviced.{Serviced}
 use Rattle.driver_rules.specs.Paper.{openPaper, sendPaper, servicePaper}
 use Rattle.driver_rules.specs.Calls.{Opens, Sends, Services}
-use Rattle.driver_rules.specs.HandUp.{area, handed}
+use Rattle.driver_rules.specs.HandUp.{HandsUp}
 use Rattle.fits.specs.Agree.{With, WithAreas, End, SameEnd, isRefusal, Left, SameLeft}
 
 -- Two results that meet a contract agree.
@@ -41,9 +46,10 @@ module _ {A : Type 0} where
   Only meets agree = (r r′ : A) → meets r → meets r′ → agree r r′
 
 module _ {A B : Type 0} where
-  -- .. where the contract is an equation: what the result shows is what the definition gives.
-  abbrev pub Is : (shows : A → B) → (wanted : B) → Type 0
-  Is shows wanted = Only (λ r. shows r ≡ wanted) (λ r r′. shows r ≡ shows r′)
+  -- .. where the contract is an equation: a result meets it if it shows what the definition gives, and not otherwise.
+  pub record Exactly (meets : A → Type 0) (shows : A → B) (wanted : B) : Type 0 where
+    pub only : (r : A) → meets r → shows r ≡ wanted
+    pub met : (r : A) → shows r ≡ wanted → meets r
 
 -- ---- the card, handed c with the memory ram and dir
 
@@ -91,6 +97,8 @@ module _ (c : Card) (ram dir : List ℕ) where
     pub success-area : (out : List ℕ) → Only (contract.success-area c ram dir out) (λ out′ out″. out′ ≡ out″)
     pub collisions : OneCall (number whole-packet 11) (contract.collisions c ram dir)
     pub seat : (i : IdState) → OneAnswer (number (idSound i) 1) (λ r. doneReply (r .answer)) (λ r. record { card = r .card; ram = ram; dir = dir }) (contract.seat c ram dir i)
+    -- it is lent nothing to change
+    pub interrupt-line : Exactly (contract.interrupt-line c ram dir) readReply (replying (number true 1) (value (interruptLine (view c ram dir))))
 
 -- ---- the driver d, handed the card too
 
@@ -117,15 +125,23 @@ module _ (c : Card) (ram dir : List ℕ) (d : Driver) where
 -- ---- the ID port, with its cards on the bus b
 
 pub record PortCalls (b : Bus) (x : ℕ) : Type 0 where
-  pub port-write : (byte : ℕ) → Is port.wroteOf (port.portWrites b x byte)
-  pub port-read : Is port.readOf (port.portReads b x)
-  pub find-cards : Is port.foundOf (port.findsCards b x)
-  pub activate-card : (tag base : ℕ) → Is port.activatedOf (port.activatesCard b x tag base)
+  pub port-write : (byte : ℕ) → Exactly (at-port.port-write b x byte) port.wroteOf (port.portWrites b x byte)
+  pub port-read : Exactly (at-port.port-read b x) port.readOf (port.portReads b x)
+  pub find-cards : Exactly (at-port.find-cards b x) port.foundOf (port.findsCards b x)
+  pub activate-card : (tag base : ℕ) → Exactly (at-port.activate-card b x tag base) port.activatedOf (port.activatesCard b x tag base)
 
 -- ---- the image's line
 
+-- A text says so many bytes; those past its length are free.
+abbrev pub text : Text → List ℕ
+text r = take (r .len) (r .bytes)
+
 abbrev pub SameText : Text → Text → Type 0
-SameText r r′ = (r .len ≡ r′ .len) × (take (r .len) (r .bytes) ≡ take (r′ .len) (r′ .bytes))
+SameText r r′ = (r .len ≡ r′ .len) × (text r ≡ text r′)
+
+pub record OneLine (meets : Text → Type 0) (line : List ℕ) : Type 0 where
+  pub says : (r : Text) → meets r → text r ≡ line
+  pub one : Only meets SameText
 
 -- ---- all of them
 
@@ -136,25 +152,23 @@ pub record Nothing-else-fits : Type 0 where
   pub card : (c : Card) (ram dir : List ℕ) → CardCalls c ram dir
   pub driver : (c : Card) (ram dir : List ℕ) (d : Driver) → DriverCalls c ram dir d
   -- the part handed up: its bytes, and its place
-  pub hand-up : (look frame : RefT (List ℕ)) (n : ℕ)
-      → Only (λ (r : RefT (List ℕ)). (now r ≡ handed (now look) (now frame) n) × (ptr r ≡ area n (ptr look) (ptr frame))) (λ r r′. (now r ≡ now r′) × (ptr r ≡ ptr r′))
+  pub hand-up : (look frame : RefT (List ℕ)) (n : ℕ) → Only (HandsUp look frame n) (λ r r′. (now r ≡ now r′) × (ptr r ≡ ptr r′))
   -- port
   pub id-port : (b : Bus) (x : ℕ) → PortCalls b x
   -- idport, one card on the port
-  pub fresh : (words : List ℕ) → Is (λ (r : IdState). r) (idFresh words)
-  pub id-sound : (s : IdState) → Is (λ (r : Bool). r) (idSound s)
-  pub id-write : (s : IdState) (x byte : ℕ) → Is (λ (r : IdState). r) (idWrite s x byte)
-  pub id-bit : (s : IdState) (x : ℕ) → Is (λ (r : ℕ). r) (idBit s x)
-  pub id-after-read : (s : IdState) (x bus : ℕ) → Is (λ (r : IdState). r) (idAfterRead s x bus)
+  pub fresh : (words : List ℕ) → Exactly (at-port.fresh words) (λ r. r) (idFresh words)
+  pub id-sound : (s : IdState) → Exactly (at-port.id-sound s) (λ r. r) (idSound s)
+  pub id-write : (s : IdState) (x byte : ℕ) → Exactly (at-port.id-write s x byte) (λ r. r) (idWrite s x byte)
+  pub id-bit : (s : IdState) (x : ℕ) → Exactly (at-port.id-bit s x) (λ r. r) (idBit s x)
+  pub id-after-read : (s : IdState) (x bus : ℕ) → Exactly (at-port.id-after-read s x bus) (λ r. r) (idAfterRead s x bus)
   -- image_check
-  pub place-of : (w : WordOffset) → Is (λ (r : BytePlace). r .0) (image.placeOf (w .0))
-  pub byte-at : (bytes : List ℕ) (place : BytePlace) → Is (λ (r : ℕ). r) (image.byteAt bytes (place .0))
-  pub word-at : (bytes : List ℕ) (w : WordOffset) → Is (λ (r : ℕ). r) (image.wordAt bytes (w .0))
-  pub checksum : (bytes : List ℕ) → Is (λ (r : ℕ). r) (image.checksumOf bytes)
-  pub secondary : (bytes : List ℕ) → Is (λ (r : ℕ). r) (image.secondaryOf bytes)
-  pub check : (bytes : List ℕ) → Is (λ (r : Checked). r) (image.checkOf bytes)
-  -- the line as long as it is; the bytes past its length are free
-  pub line : (found : Checked) → Only (λ (r : Text). Says (lineOf found) (r .len) (r .bytes)) SameText
-  pub line-judged : (bytes : List ℕ) → Only (λ (r : Text). Says (lineOf (image.checkOf bytes)) (r .len) (r .bytes)) SameText
+  pub place-of : (w : WordOffset) → Exactly (of-image.place-of w) (λ r. r .0) (image.placeOf (w .0))
+  pub byte-at : (bytes : List ℕ) (place : BytePlace) → Exactly (of-image.byte-at bytes place) (λ r. r) (image.byteAt bytes (place .0))
+  pub word-at : (bytes : List ℕ) (w : WordOffset) → Exactly (of-image.word-at bytes w) (λ r. r) (image.wordAt bytes (w .0))
+  pub checksum : (bytes : List ℕ) → Exactly (of-image.checksum bytes) (λ r. r) (image.checksumOf bytes)
+  pub secondary : (bytes : List ℕ) → Exactly (of-image.secondary bytes) (λ r. r) (image.secondaryOf bytes)
+  pub check : (bytes : List ℕ) → Exactly (of-image.check bytes) (λ r. r) (image.checkOf bytes)
+  pub line : (found : Checked) → OneLine (of-image.line found) (lineOf found)
+  pub line-judged : (bytes : List ℕ) → OneLine (of-image.judged bytes) (lineOf (image.checkOf bytes))
   -- refusal
-  pub number : (why : Refusal) → Is (λ (r : ℕ). r) (numberOf why)
+  pub number : (why : Refusal) → Exactly (refusal.number why) (λ r. r) (numberOf why)

@@ -1,8 +1,7 @@
 // One card on the ID port: document 01, "Finding cards on one ID port", and the manual's ISA Activation chapter.
-ghost use mathlib.Core.Path.{_≡_};
 ghost use Rattle.port_rules.specs.Sequence.{The-sequence};
-ghost use Rattle.port_rules.specs.Card.{idFresh, idWrite, idBit, idAfterRead};
-ghost use Rattle.port_rules.specs.Sound.{idSound, Every-step-keeps-soundness};
+ghost use Rattle.port_rules.specs.Sound.{Every-step-keeps-soundness};
+ghost use Rattle.port_rules.specs.Contracts as contract;
 use port_rules::IdState;
 
 pub mod cards; // cards.rt: what is gathered over the cards on one ID port, and the tests of the calls' arguments
@@ -24,7 +23,7 @@ pub use sequence::byte_at;
 
 // A card after power-on, with these words in its EEPROM.
 pub fn fresh(words: [u16; 64]) -> IdState
-    ensures { λ r. ⌜ r ≡ idFresh words ⌝ }
+    ensures { λ r. ⌜ contract.fresh words r ⌝ }
 {
     let address = words[8];
     IdState {
@@ -42,7 +41,7 @@ pub fn fresh(words: [u16; 64]) -> IdState
 
 // Whether the state is one that a card can be in.
 pub fn id_sound(s: IdState) -> bool
-    ensures { λ r. ⌜ r ≡ idSound s ⌝ }
+    ensures { λ r. ⌜ contract.id-sound s r ⌝ }
 {
     (s.port <= 16)
         & (s.at <= 254)
@@ -53,7 +52,7 @@ pub fn id_sound(s: IdState) -> bool
 
 // A byte written to port 1x0h, where `port` is x.
 pub fn id_write(s: IdState, port: u8, byte: u8) -> IdState
-    ensures { λ r. ⌜ r ≡ idWrite s port byte ⌝ }
+    ensures { λ r. ⌜ contract.id-write s port byte r ⌝ }
 {
     let own = s.port;
     if s.command {
@@ -67,7 +66,7 @@ pub fn id_write(s: IdState, port: u8, byte: u8) -> IdState
 
 // The bit that the card drives when the port is read; a card that drives none leaves the bus its 1.
 pub fn id_bit(s: IdState, port: u8) -> u8
-    ensures { λ r. ⌜ r ≡ idBit s port ⌝ }
+    ensures { λ r. ⌜ contract.id-bit s port r ⌝ }
 {
     if contend::drives(s, port) {
         return (s.shift >> 15) as u8;
@@ -77,7 +76,7 @@ pub fn id_bit(s: IdState, port: u8) -> u8
 
 // The card after a read of the port that gave `bus`.
 pub fn id_after_read(mut s: IdState, port: u8, bus: u8) -> IdState
-    ensures { λ r. ⌜ r ≡ idAfterRead s port bus ⌝ }
+    ensures { λ r. ⌜ contract.id-after-read s port bus r ⌝ }
 {
     if contend::drives(s, port) {
         let mine = id_bit(s, port);

@@ -7,8 +7,7 @@ pub mod text; // text.rt: the line that is printed
 
 pub use text::judged;
 pub use text::line;
-ghost use mathlib.Core.Path.{_≡_};
-ghost use Rattle.image_rules.specs.Image.{placeOf, byteAt, wordAt, checksumOf, secondaryOf, checkOf};
+ghost use Rattle.image_rules.specs.Contracts as contract;
 use crate::walk::both_bytes;
 use crate::walk::span_xor;
 use bits::pair;
@@ -23,14 +22,14 @@ const MAKER: u16 = 0x6d50;
 // The one way from word offsets to byte places: the place of the word's low byte.
 // An offset has six bits, as an EEPROM command's address has.
 pub fn place_of(w: WordOffset) -> BytePlace
-    ensures { λ r. ⌜ r .0 ≡ placeOf (w .0) ⌝ }
+    ensures { λ r. ⌜ contract.place-of w r ⌝ }
 {
     BytePlace(2 * (w.0 % 64))
 }
 
 // The byte at a place; 0 past the image's end.
 pub fn byte_at(image: &[u8], at: BytePlace) -> u8
-    ensures { λ r. ⌜ r ≡ byteAt (now (image .entry)) (at .0) ⌝ }
+    ensures { λ r. ⌜ contract.byte-at (now (image .entry)) at r ⌝ }
 {
     let place = at.0;
     if place < image.len() {
@@ -41,7 +40,7 @@ pub fn byte_at(image: &[u8], at: BytePlace) -> u8
 
 // The word at an offset.
 pub fn word_at(image: &[u8], w: WordOffset) -> u16
-    ensures { λ r. ⌜ r ≡ wordAt (now (image .entry)) (w .0) ⌝ }
+    ensures { λ r. ⌜ contract.word-at (now (image .entry)) w r ⌝ }
 {
     let low = place_of(w).0;
     pair(
@@ -52,7 +51,7 @@ pub fn word_at(image: &[u8], w: WordOffset) -> u16
 
 // What word 0Fh must be.
 pub fn checksum(image: &[u8]) -> u16
-    ensures { λ r. ⌜ r ≡ checksumOf (now (image .entry)) ⌝ }
+    ensures { λ r. ⌜ contract.checksum (now (image .entry)) r ⌝ }
 {
     let high = span_xor(image, WordOffset(0x00), WordOffset(0x07))
         ^ span_xor(image, WordOffset(0x0a), WordOffset(0x0c))
@@ -65,7 +64,7 @@ pub fn checksum(image: &[u8]) -> u16
 
 // What word 17h must be: vital data in the high byte, configurable data in the low one.
 pub fn secondary(image: &[u8]) -> u16
-    ensures { λ r. ⌜ r ≡ secondaryOf (now (image .entry)) ⌝ }
+    ensures { λ r. ⌜ contract.secondary (now (image .entry)) r ⌝ }
 {
     let vital = span_xor(image, WordOffset(0x10), WordOffset(0x12))
         ^ span_xor(image, WordOffset(0x20), WordOffset(0x3f));
@@ -75,7 +74,7 @@ pub fn secondary(image: &[u8]) -> u16
 
 // Checks an image of any length. The first of 2, 8, 9 and 10 that is due is the answer.
 pub fn check(image: &[u8]) -> Checked
-    ensures { λ r. ⌜ r ≡ checkOf (now (image .entry)) ⌝ }
+    ensures { λ r. ⌜ contract.check (now (image .entry)) r ⌝ }
 {
     if image.len() != 128 {
         return Checked::Refused(Refusal::LengthOutside);

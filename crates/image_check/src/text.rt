@@ -1,7 +1,5 @@
 // The line that tells what the check of an EEPROM image found.
-
-ghost use Rattle.image_rules.specs.Image.{checkOf};
-ghost use Rattle.image_rules.specs.Line.{Says, lineOf};
+ghost use Rattle.image_rules.specs.Contracts as contract;
 use crate::forms::ok_line;
 use crate::forms::refused_line;
 use image_rules::Checked;
@@ -9,14 +7,14 @@ use image_rules::Text;
 
 // The line for an image of any length.
 pub fn judged(image: &[u8]) -> Text
-    ensures { λ r. ⌜ Says (lineOf (checkOf (now (image .entry)))) (r .len) (r .bytes) ⌝ }
+    ensures { λ r. ⌜ contract.judged (now (image .entry)) r ⌝ }
 {
     line(crate::check(image))
 }
 
 // The line for what a check found.
 pub fn line(found: Checked) -> Text
-    ensures { λ r. ⌜ Says (lineOf found) (r .len) (r .bytes) ⌝ }
+    ensures { λ r. ⌜ contract.line found r ⌝ }
 {
     match found {
         Checked::Sound {

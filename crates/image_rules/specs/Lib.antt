@@ -3,4 +3,6 @@
 pub mod Image
 -- the line that is printed
 pub mod Line
+-- the public calls
+pub mod Contracts
 pub mod Put

@@ -13,7 +13,7 @@ use Rattle.port_rules.specs.declared.Bus.{Bus}
 use Rattle.port_rules.specs.Port.{held, rest}
 use Rattle.port_rules.specs.Calls.{told, padded, Outcome, allSound, allowed, naming, digitOf, refusing, judged}
 use Rattle.port.proofs.Outcomes.{unsound, outside, goes}
-use Rattle.lent_port.specs.Lent.{lent, Alike, The-same-as-by-value}
+use Rattle.port_rules.specs.Lent.{lent, Alike, The-same-as-by-value}
 use Rattle.lent_port.proofs.Slices.{held-lent, unsound-lent, outside-lent, goes-lent, Talked, over, writing, reading, searching, activating}
 
 -- equal outcomes on both sides

@@ -21,11 +21,11 @@ use Rattle.port_rules.specs.Calls.{refused, told, Outcome, foundOf, activatedOf
 use Rattle.port_rules.proofs.Cards.{sound-turn}
 use Rattle.bits.proofs.Tests.{both}
 use Rattle.port.proofs.Outcomes.{outside, goes, few}
-use Rattle.lent_port.specs.declared.Listed.{Listed}
+use Rattle.port_rules.specs.declared.Listed.{Listed}
 use Rattle.lent_port.specs.declared.seats.Taken.{Taken}
 use Rattle.lent_port.specs.Steps.{emptied, takenWith, foundIn, activatedIn, seatOf}
 use Rattle.lent_port.proofs.Places.{same-at}
-use Rattle.lent_port.specs.Lent.{lent, foundOver, activatedOver, listedOf}
+use Rattle.port_rules.specs.Lent.{lent, foundOver, activatedOver, listedOf}
 use Rattle.lent_port.proofs.Turns.{noCard, gone, gone-is}
 use Rattle.lent_port.proofs.Slices.{fits-lent, unsound-lent, outside-lent, goes-lent, Talked, over, over-lent, searching, activating}
 

@@ -16,7 +16,7 @@ use Rattle.port_rules.specs.Calls.{Reply, refused, told, wroteReply, bitReply, 
 use Rattle.port_rules.proofs.Cards.{bit-turn, sound-turn}
 use Rattle.lent_port.specs.declared.look.Seen.{Seen}
 use Rattle.lent_port.specs.declared.look.Step.{Step}
-use Rattle.lent_port.specs.Lent.{lent, wroteOver, readOver}
+use Rattle.port_rules.specs.Lent.{lent, wroteOver, readOver}
 use Rattle.lent_port.specs.Steps.{unseen, seenWith, portFits, stepOf, writingOf, readingOf, writtenBy, heardBy, replyOf}
 use Rattle.lent_port.proofs.Turns.{gone, gone-map, map-same}
 use Rattle.lent_port.proofs.Slices.{held-lent, seated-lent, fits-lent, write-length, read-length, unsound-lent, outside-lent, goes-lent}

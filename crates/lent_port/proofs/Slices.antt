@@ -14,7 +14,7 @@ use Rattle.port_rules.specs.declared.Bus.{Bus}
 use Rattle.port_rules.specs.Port.{held, rest, seated, Access, write, read, Talk, done, ask, run, value, after, portWrite, portBit, portRead}
 use Rattle.port_rules.specs.Search.{search, activate}
 use Rattle.port_rules.specs.Calls.{told, Outcome, padded, allSound, allowed, refusing, judged, ended}
-use Rattle.lent_port.specs.Lent.{lent}
+use Rattle.port_rules.specs.Lent.{lent}
 use Rattle.lent_port.specs.Steps.{portFits}
 
 -- all the slice's cards are there

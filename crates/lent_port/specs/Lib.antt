@@ -1,3 +1,2 @@
---
-pub mod Lent
+-- What the covered steps of the calls over a lent slice promise.
 pub mod Steps

@@ -2,13 +2,13 @@
 // Each contract is that of the call over a bus by value (crate `port`), with the slice for the bus; a refused call leaves the slice as it came.
 // A write and a read step each card where it stands. The search and the activation take the slice into the array by value, run there, and put it back.
 ghost use mathlib.Core.Path.{_≡_};
-ghost use Rattle.port_rules.specs.Calls.{portWrites, portReads, findsCards, activatesCard};
-ghost use Rattle.lent_port.specs.Lent.{lent, wroteOver, readOver, foundOver, activatedOver, listedOf, The-same-as-by-value};
+ghost use Rattle.port_rules.specs.Lent.{listedOf, The-same-as-by-value};
+ghost use Rattle.port_rules.specs.Contracts as contract;
 use port_rules::Activation;
 use port_rules::AfterSearch;
 use port_rules::Bit;
-use port_rules::Found;
 use port_rules::IdState;
+use port_rules::Listed;
 use port_rules::Wrote;
 
 mod look; // look.rt: a look at one card, and one card stepped
@@ -16,7 +16,7 @@ mod seats; // seats.rt: one card taken in or put back
 
 // A byte written to the port, which each card sees. A port is its I/O address, 100h to 1F0h.
 pub fn write(cards: &mut [IdState], port: u16, byte: u8) -> Wrote
-    ensures { λ r. ⌜ wroteOver r (now (cards .exit)) ≡ portWrites (lent (now (cards .entry))) port byte ⌝ }
+    ensures { λ r. ⌜ contract.lent-write (now (cards .entry)) port byte r (now (cards .exit)) ⌝ }
 {
     let mut seen = look::begin(port);
     let mut i = 0;
@@ -35,7 +35,7 @@ pub fn write(cards: &mut [IdState], port: u16, byte: u8) -> Wrote
 
 // A bit read from the port, and the cards as the contention leaves them.
 pub fn read(cards: &mut [IdState], port: u16) -> Bit
-    ensures { λ r. ⌜ readOver r (now (cards .exit)) ≡ portReads (lent (now (cards .entry))) port ⌝ }
+    ensures { λ r. ⌜ contract.lent-read (now (cards .entry)) port r (now (cards .exit)) ⌝ }
 {
     let mut seen = look::begin(port);
     let mut i = 0;
@@ -52,12 +52,6 @@ pub fn read(cards: &mut [IdState], port: u16) -> Bit
     look::read_answer(step)
 }
 
-// The first `count` of `addresses` are the station addresses found, in ascending order; the others are 0.
-pub struct Listed {
-    pub answer: Found,
-    pub addresses: [u64; 7],
-}
-
 fn answered(after: AfterSearch) -> Listed
     ensures { λ r. ⌜ r ≡ listedOf after ⌝ }
 {
@@ -71,7 +65,7 @@ fn answered(after: AfterSearch) -> Listed
 
 // The search: the cards found are tagged from 1 on.
 pub fn find(cards: &mut [IdState], port: u16) -> Listed
-    ensures { λ r. ⌜ foundOver r (now (cards .exit)) ≡ findsCards (lent (now (cards .entry))) port ⌝ }
+    ensures { λ r. ⌜ contract.lent-find (now (cards .entry)) port r (now (cards .exit)) ⌝ }
 {
     let mut taken = seats::empty(port);
     let mut i = 0;
@@ -90,7 +84,7 @@ pub fn find(cards: &mut [IdState], port: u16) -> Listed
 
 // Activation of the card with this tag, 1 to 7, at this base number; 31 means preconfigured.
 pub fn activate(cards: &mut [IdState], port: u16, tag: u8, base: u8) -> Activation
-    ensures { λ r. ⌜ activatedOver r (now (cards .exit)) ≡ activatesCard (lent (now (cards .entry))) port tag base ⌝ }
+    ensures { λ r. ⌜ contract.lent-activate (now (cards .entry)) port tag base r (now (cards .exit)) ⌝ }
 {
     let mut taken = seats::empty(port);
     let mut i = 0;

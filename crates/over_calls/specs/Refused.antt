@@ -10,6 +10,7 @@ use Rattle.port_rules.specs.declared.AfterRead.{AfterRead as AfterBit}
 use Rattle.port_rules.specs.declared.AfterSearch.{AfterSearch}
 use Rattle.port_rules.specs.declared.AfterActivation.{AfterActivation}
 use Rattle.port_rules.specs.Calls as port
+use Rattle.port_rules.specs.Contracts as at-port
 use Rattle.card_rules.specs.declared.Card.{Card}
 use Rattle.card_rules.specs.declared.AfterRead.{AfterRead}
 use Rattle.card_rules.specs.declared.AfterCall.{AfterCall}
@@ -59,10 +60,10 @@ isNo (port.refused n) = true
 isNo (port.told values) = false
 
 pub record Port-keeps (b : Bus) (x : ℕ) : Type 0 where
-  pub port-write : (byte : ℕ) (r : AfterWrite) → port.wroteOf r ≡ port.portWrites b x byte → isNo (port.wroteReply (r .answer)) ≡ true → r .bus ≡ b
-  pub port-read : (r : AfterBit) → port.readOf r ≡ port.portReads b x → isNo (port.bitReply (r .answer)) ≡ true → r .bus ≡ b
-  pub find-cards : (r : AfterSearch) → port.foundOf r ≡ port.findsCards b x → isNo (port.foundReply (r .answer)) ≡ true → r .bus ≡ b
-  pub activate-card : (tag base : ℕ) (r : AfterActivation) → port.activatedOf r ≡ port.activatesCard b x tag base → isNo (port.activationReply (r .answer)) ≡ true → r .bus ≡ b
+  pub port-write : (byte : ℕ) (r : AfterWrite) → at-port.port-write b x byte r → isNo (port.wroteReply (r .answer)) ≡ true → r .bus ≡ b
+  pub port-read : (r : AfterBit) → at-port.port-read b x r → isNo (port.bitReply (r .answer)) ≡ true → r .bus ≡ b
+  pub find-cards : (r : AfterSearch) → at-port.find-cards b x r → isNo (port.foundReply (r .answer)) ≡ true → r .bus ≡ b
+  pub activate-card : (tag base : ℕ) (r : AfterActivation) → at-port.activate-card b x tag base r → isNo (port.activationReply (r .answer)) ≡ true → r .bus ≡ b
 
 -- ---- all of them
 

@@ -1,6 +1,5 @@
 // The cards on one ID port: a byte written, the port read, the search and the activation of a found card.
-ghost use mathlib.Core.Path.{_≡_};
-ghost use Rattle.port_rules.specs.Calls.{wroteOf, readOf, foundOf, activatedOf, portWrites, portReads, findsCards, activatesCard};
+ghost use Rattle.port_rules.specs.Contracts as contract;
 use port_rules::Activation;
 use port_rules::AfterActivation;
 use port_rules::AfterRead;
@@ -20,7 +19,7 @@ mod host;
 
 // A byte written to the port, which each card sees. A port is its I/O address, 100h to 1F0h.
 pub fn port_write(b: Bus, port: u16, byte: u8) -> AfterWrite
-    ensures { λ r. ⌜ wroteOf r ≡ portWrites b port byte ⌝ }
+    ensures { λ r. ⌜ contract.port-write b port byte r ⌝ }
 {
     if !checks::all_sound(b) {
         return AfterWrite {
@@ -44,7 +43,7 @@ pub fn port_write(b: Bus, port: u16, byte: u8) -> AfterWrite
 
 // A bit read from the port, and the cards as the contention leaves them.
 pub fn port_read(b: Bus, port: u16) -> AfterRead
-    ensures { λ r. ⌜ readOf r ≡ portReads b port ⌝ }
+    ensures { λ r. ⌜ contract.port-read b port r ⌝ }
 {
     if !checks::all_sound(b) {
         return AfterRead {
@@ -70,7 +69,7 @@ pub fn port_read(b: Bus, port: u16) -> AfterRead
 
 // The search: the cards found are tagged from 1 on.
 pub fn find_cards(b: Bus, port: u16) -> AfterSearch
-    ensures { λ r. ⌜ foundOf r ≡ findsCards b port ⌝ }
+    ensures { λ r. ⌜ contract.find-cards b port r ⌝ }
 {
     if !checks::all_sound(b) {
         return AfterSearch {
@@ -104,7 +103,7 @@ pub fn find_cards(b: Bus, port: u16) -> AfterSearch
 
 // Activation of the card with this tag, 1 to 7, at this base number; 31 means preconfigured.
 pub fn activate_card(b: Bus, port: u16, tag: u8, base: u8) -> AfterActivation
-    ensures { λ r. ⌜ activatedOf r ≡ activatesCard b port tag base ⌝ }
+    ensures { λ r. ⌜ contract.activate-card b port tag base r ⌝ }
 {
     if !checks::all_sound(b) {
         return AfterActivation {

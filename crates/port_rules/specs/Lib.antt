@@ -9,4 +9,6 @@ pub mod Gathered
 pub mod Port
 pub mod Search
 pub mod Calls
+pub mod Lent
+pub mod Contracts
 pub mod Leads

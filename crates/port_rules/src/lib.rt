@@ -59,6 +59,12 @@ pub struct AfterSearch {
     pub addresses: [u64; 7],
 }
 
+// What a search over a lent slice answers: the cards stay where they are lent.
+pub struct Listed {
+    pub answer: Found,
+    pub addresses: [u64; 7],
+}
+
 pub enum Activation {
     Refused(Refusal),
     Done { accesses: usize },

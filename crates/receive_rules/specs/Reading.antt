@@ -94,10 +94,14 @@ deafened wire = cond (eqb wire 2) 1 wire
 abbrev pub earlyDefault : ℕ
 earlyDefault = 2044
 
--- RX Reset drops everything, ignores the rest of a begun frame, turns the receiver off and restores RX Early. (The filter is the card's.)
-unfoldable pub rxReset : Rx → Rx
-rxReset x =
+-- The empty receive side: the receiver is off, and nothing is stored. `wire` is what the wire is doing.
+abbrev pub rxEmpty : ℕ → Rx
+rxEmpty wire =
     record {
-      receiver = record { on = false; failed = false; early = false; told = false; threshold = earlyDefault; read = 0; wire = deafened (x .receiver .wire) };
+      receiver = record { on = false; failed = false; early = false; told = false; threshold = earlyDefault; read = 0; wire = wire };
       frames = [];
     }
+
+-- RX Reset drops everything, ignores the rest of a begun frame, turns the receiver off and restores RX Early. (The filter is the card's.)
+unfoldable pub rxReset : Rx → Rx
+rxReset x = rxEmpty (deafened (x .receiver .wire))

@@ -1,6 +1,5 @@
 // The refusals: document 01's table "Numbers a call may answer", in its order.
-ghost use mathlib.Core.Path.{_≡_};
-ghost use Rattle.refusal.specs.Number.{numberOf};
+ghost use Rattle.refusal.specs.Contracts as contract;
 
 // Each is named by what is wrong.
 pub enum Refusal {
@@ -44,7 +43,7 @@ pub enum Refusal {
 
 // The paper's number of a refusal.
 pub fn number(why: Refusal) -> u8
-    ensures { λ r. ⌜ r ≡ numberOf why ⌝ }
+    ensures { λ r. ⌜ contract.number why r ⌝ }
 {
     match why {
         Refusal::StateUnsound => 1,

@@ -8,7 +8,8 @@ ghost use Rattle.card_rules.specs.Room.{txSize, rxSize};
 ghost use Rattle.receive_rules.specs.View as rx;
 ghost use Rattle.card_rules.specs.Status.{shows, statusOf, statusWord, flags as flagsOf, rises as risesOf, interrupting};
 ghost use Rattle.card_rules.specs.Settle.{settle as settleOf};
-ghost use Rattle.card_rules.specs.Power.{quietRx, powerOn, reset as resetOf};
+ghost use Rattle.receive_rules.specs.Reading.{rxEmpty};
+ghost use Rattle.card_rules.specs.Power.{powerOn, reset as resetOf};
 ghost use Rattle.card_rules.specs.Sound.{selectSound, kept};
 ghost use Rattle.card_rules.specs.View.{rxSizeOf, view, Held, Sound, Blank, Does, SettlesSides, Stands, soundCard};
 use card_rules::Card;
@@ -125,7 +126,7 @@ fn loaded(words: [u16; 64]) -> Config
 
 // The receive side at power-on and after RX Reset: off and empty. `wire` is what the wire is doing.
 pub fn quiet(wire: u8) -> Receive
-    ensures { λ r. ⌜ r ≡ record { receiver = quietRx wire .receiver; frames = 0 } ⌝ }
+    ensures { λ r. ⌜ r ≡ record { receiver = rxEmpty wire .receiver; frames = 0 } ⌝ }
 {
     Receive {
         receiver: Receiver {

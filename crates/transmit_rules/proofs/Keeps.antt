@@ -11,7 +11,7 @@ use Rattle.transmit_rules.proofs.QueueKeeps.{put-keeps, leave-keeps, no
 use Rattle.transmit_rules.specs.Reports.{Reports}
 use Rattle.transmit_rules.specs.Outcome.{succeeded, collided, reset, acknowledge, filled, availableSettled}
 use Rattle.transmit_rules.proofs.OutcomesKeeps as outcome
-use Rattle.transmit_rules.specs.Tx.{Tx, withReports, onReports, txPowerOn, writeData, success, collisions, txReset, settle, kept, sound}
+use Rattle.transmit_rules.specs.Tx.{Tx, withReports, onReports, txEmpty, writeData, success, collisions, txReset, settle, kept, sound}
 
 pub kept-orderly : (size : ℕ) (x : Tx) → kept size x ≡ true → orderly size (x .queue) ≡ true
 kept-orderly size x h = both (orderly size (x .queue)) (filled (x .reports)) h .0
@@ -69,5 +69,5 @@ settle-stays size x h =
     ap (λ (r : Reports). withReports r x) (outcome.settle-stays (free size (x .queue)) (x .reports) (p .1))
 
 -- power-on, in any size
-pub power-on-sound : (size : ℕ) → sound size txPowerOn ≡ true
-power-on-sound size = join (kept size txPowerOn) _ (none-kept size txPowerOn refl refl refl) (outcome.power-on-settled (free size (txPowerOn .queue)))
+pub power-on-sound : (size : ℕ) → sound size txEmpty ≡ true
+power-on-sound size = join (kept size txEmpty) _ (none-kept size txEmpty refl refl refl) (outcome.power-on-settled (free size (txEmpty .queue)))

@@ -12,7 +12,7 @@ use Rattle.transmit_rules.specs.QueueSound.{allSized}
 use Rattle.transmit_rules.specs.QueueView.{partOf, soundFifo}
 use Rattle.transmit_rules.specs.Outcome.{enable, push, succeeded, collided, due, setLevel}
 use Rattle.transmit_rules.specs.OutcomesView.{soundOutcomes}
-use Rattle.transmit_rules.specs.Tx.{Tx, onReports, txPowerOn, writeData, any, ready, success, collisions, txReset, settle}
+use Rattle.transmit_rules.specs.Tx.{Tx, onReports, txEmpty, writeData, any, ready, success, collisions, txReset, settle}
 use Rattle.transmit_rules.specs.View.{soundSide}
 
 writes : List ℕ → Tx → Tx
@@ -21,7 +21,7 @@ writes (v ∷ vs) x = writes vs (writeData 3072 v x)
 
 -- a packet of 14 bytes with bit 15, on a transmitter that is on
 stored : Tx
-stored = writes (32782 ∷ 0 ∷ replicate 8 257) (onReports enable txPowerOn)
+stored = writes (32782 ∷ 0 ∷ replicate 8 257) (onReports enable txEmpty)
 
 -- it can go, and the wire is told 60 bytes
 stored-ready : (ready stored ≡ true) × (toldOf (stored .queue .packets) ≡ replicate 14 1 ++ replicate 46 0)
@@ -43,12 +43,12 @@ unfolding stored writes enable put completed free room collisions oldestWanted o
 stored-collided = (refl, refl)
 
 -- a preamble of 5 fails, later words are dropped, and TX Reset takes the failure away
-failed-reset : (writes (5 ∷ 0 ∷ []) txPowerOn .queue .failed ≡ true) × (txReset (writes (5 ∷ 0 ∷ []) txPowerOn) ≡ txPowerOn)
+failed-reset : (writes (5 ∷ 0 ∷ []) txEmpty .queue .failed ≡ true) × (txReset (writes (5 ∷ 0 ∷ []) txEmpty) ≡ txEmpty)
 unfolding writes put free room txReset
 failed-reset = (refl, refl)
 
 -- with the threshold at 1,000 an empty FIFO sets TX Available
-settled : settle 3072 (onReports (setLevel 1000) txPowerOn) .reports .sender .available ≡ true
+settled : settle 3072 (onReports (setLevel 1000) txEmpty) .reports .sender .available ≡ true
 unfolding due free room
 settled = refl
 

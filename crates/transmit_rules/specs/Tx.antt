@@ -25,9 +25,9 @@ withReports r x = record { queue = x .queue; reports = r }
 abbrev pub onReports : (Reports → Reports) → Tx → Tx
 onReports g x = withReports (g (x .reports)) x
 
--- Power-on: the FIFO is empty, and the transmitter off.
-abbrev pub txPowerOn : Tx
-txPowerOn = record { queue = empty; reports = atPowerOn }
+-- The empty transmit side: FIFO and status stack are empty, and the transmitter is off.
+abbrev pub txEmpty : Tx
+txEmpty = record { queue = empty; reports = atPowerOn }
 
 -- The host writes a word.
 abbrev pub writeData : ℕ → ℕ → Tx → Tx

@@ -57,7 +57,7 @@ use Rattle.port_rules.specs.declared.AfterActivation.{AfterActivation}
 use Rattle.port_rules.specs.declared.Activation.{Activation}
 use Rattle.port_rules.specs.Calls.{activatedOf, activatesCard}
 use Rattle.lent_port.specs.Steps.{emptied, takenWith, activatedIn, seatOf}
-use Rattle.lent_port.specs.Lent.{lent, activatedOver}
+use Rattle.port_rules.specs.Lent.{lent, activatedOver}
 use Rattle.lent_port.proofs.Turns.{noCard as d, gone, gone-none, gone-length, gone-next}
 use Rattle.lent_port.proofs.Gathered.{Gathered, gathered-none, gathered-next, activated-ends}
 use Rattle.lent_port.proofs.seats.Taken as Wk

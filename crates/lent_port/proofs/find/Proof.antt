@@ -53,18 +53,18 @@ use Rattle.port_rules.proofs.IdState as T
 use Rattle.port_rules.proofs.IdState.Laws as T′
 use Rattle.lent_port.specs.declared.seats.Taken.{Taken}
 use Rattle.port_rules.specs.declared.AfterSearch.{AfterSearch}
-use Rattle.lent_port.specs.declared.Listed.{Listed}
+use Rattle.port_rules.specs.declared.Listed.{Listed}
 use Rattle.port_rules.specs.Calls.{foundOf, findsCards}
 use Rattle.lent_port.specs.Steps.{emptied, takenWith, foundIn, seatOf}
-use Rattle.lent_port.specs.Lent.{lent, foundOver, listedOf}
+use Rattle.port_rules.specs.Lent.{lent, foundOver, listedOf}
 use Rattle.lent_port.proofs.Turns.{noCard as d, gone, gone-none, gone-length, gone-next}
 use Rattle.lent_port.proofs.Gathered.{Gathered, gathered-none, gathered-next, found-ends}
 use Rattle.lent_port.proofs.seats.Taken as Wk
 use Rattle.lent_port.proofs.seats.Taken.Laws as Wk′
 use Rattle.port_rules.proofs.AfterSearch as Vr
 use Rattle.port_rules.proofs.AfterSearch.Laws as Vr′
-use Rattle.lent_port.proofs.Listed as Rs
-use Rattle.lent_port.proofs.Listed.Laws as Rs′
+use Rattle.port_rules.proofs.Listed as Rs
+use Rattle.port_rules.proofs.Listed.Laws as Rs′
 use Rattle.lent_port.proofs.seats.empty as begin
 use Rattle.lent_port.proofs.seats.empty.Symbol as begin-def
 use Rattle.lent_port.proofs.seats.empty.Symbol.{name as #lent-port·seats·empty}

@@ -57,7 +57,7 @@ use Rattle.lent_port.specs.declared.look.Step.{Step}
 use Rattle.port_rules.specs.declared.Bit.{Bit}
 use Rattle.port_rules.specs.Calls.{bitReply, portReads}
 use Rattle.lent_port.specs.Steps.{unseen, seenWith, readingOf, heardBy, replyOf}
-use Rattle.lent_port.specs.Lent.{lent, readOver}
+use Rattle.port_rules.specs.Lent.{lent, readOver}
 use Rattle.lent_port.proofs.Turns.{noCard as d, gone, gone-none, gone-length, gone-next}
 use Rattle.lent_port.proofs.Looked.{Looked, looked-none, looked-next, heard-ends}
 use Rattle.lent_port.proofs.look.Seen as Wk

@@ -57,7 +57,7 @@ use Rattle.lent_port.specs.declared.look.Step.{Step}
 use Rattle.port_rules.specs.declared.Wrote.{Wrote}
 use Rattle.port_rules.specs.Calls.{wroteReply, portWrites}
 use Rattle.lent_port.specs.Steps.{unseen, seenWith, writingOf, writtenBy, replyOf}
-use Rattle.lent_port.specs.Lent.{lent, wroteOver}
+use Rattle.port_rules.specs.Lent.{lent, wroteOver}
 use Rattle.lent_port.proofs.Turns.{noCard as d, gone, gone-none, gone-length, gone-next}
 use Rattle.lent_port.proofs.Looked.{Looked, looked-none, looked-next, wrote-ends}
 use Rattle.lent_port.proofs.look.Seen as Wk

@@ -4,15 +4,15 @@ use Prim.Native.Nat.{ℕ, _≤_}
 use mathlib.Core.Path.{_≡_}
 use mathlib.Core.List.{List, []}
 use lib.ListN.{length}
 use Rattle.port_rules.specs.declared.IdState.{IdState}
 use Rattle.port_rules.specs.declared.Bus.{Bus}
 use Rattle.port_rules.specs.declared.Wrote.{Wrote}
 use Rattle.port_rules.specs.declared.Bit.{Bit}
 use Rattle.port_rules.specs.declared.AfterSearch.{AfterSearch}
 use Rattle.port_rules.specs.declared.Activation.{Activation}
 use Rattle.port_rules.specs.Port.{held}
 use Rattle.port_rules.specs.Calls.{Outcome, wroteReply, bitReply, foundReply, activationReply, padded, portWrites, portReads, findsCards, activatesCard}
-use Rattle.lent_port.specs.declared.Listed.{Listed}
+use Rattle.port_rules.specs.declared.Listed.{Listed}
 
 -- The slice as a bus: as many places as there are cards, and all of them taken.
 abbrev pub lent : List IdState → Bus

@@ -57,6 +57,7 @@ nothing-else =
       driver = driver-calls;
       hand-up = λ look frame n r r′ k k′. (k .0 ∙ sym (k′ .0), k .1 ∙ sym (k′ .1));
       id-port = λ b x. record { port-write = λ byte. exactly _ _; port-read = exactly _ _; find-cards = exactly _ _; activate-card = λ tag base. exactly _ _ };
+      lent-port = λ cards x. record { write = λ byte. exactly _ _; read = exactly _ _; find = exactly _ _; activate = λ tag base. exactly _ _ };
       fresh = λ words. exactly _ _;
       id-sound = λ s. exactly _ _;
       id-write = λ s x byte. exactly _ _;

@@ -3,6 +3,7 @@ use mathlib.Core.Path.{_≡_}
 use mathlib.Core.Bool.{Bool, true, false}
 use mathlib.Core.List.{List}
 use Prim.Native.Nat.{ℕ, suc}
+use Rattle.port_rules.specs.declared.IdState.{IdState}
 use Rattle.card_rules.specs.declared.Card.{Card}
 use Rattle.card_rules.specs.Adapter.{Adapter}
 use Rattle.card_rules.specs.View.{view}
@@ -25,6 +26,11 @@ pub record WithAreas (A : Type 0) : Type 0 where
   pub dir : List ℕ
   pub look : List ℕ
   pub frame : List ℕ
+
+-- an answer, and the slice of cards that was lent, after the call
+pub record Over (A : Type 0) : Type 0 where
+  pub answer : A
+  pub cards : List IdState
 
 -- the card with its memory at the end of a call
 pub record End : Type 0 where

@@ -20,6 +20,11 @@ use Rattle.port_rules.specs.Card.{idFresh, idWrite, idBit, idAfterRead}
 use Rattle.port_rules.specs.Sound.{idSound}
 use Rattle.port_rules.specs.declared.Bus.{Bus}
 use Rattle.port_rules.specs.Calls as port
+use Rattle.port_rules.specs.declared.Wrote.{Wrote}
+use Rattle.port_rules.specs.declared.Bit.{Bit}
+use Rattle.port_rules.specs.declared.Listed.{Listed}
+use Rattle.port_rules.specs.declared.Activation.{Activation}
+use Rattle.port_rules.specs.Lent.{lent, wroteOver, readOver, foundOver, activatedOver}
 use Rattle.port_rules.specs.Contracts as at-port
 use Rattle.transmit_rules.specs.Tx.{ready}
 use Rattle.card_rules.specs.declared.Card.{Card}
@@ -38,7 +43,7 @@ use Rattle.driver_rules.specs.declared.Serviced.{Serviced}
 use Rattle.driver_rules.specs.Paper.{openPaper, sendPaper, servicePaper}
 use Rattle.driver_rules.specs.Calls.{Opens, Sends, Services}
 use Rattle.driver_rules.specs.HandUp.{HandsUp}
-use Rattle.fits.specs.Agree.{With, WithAreas, End, SameEnd, isRefusal, Left, SameLeft}
+use Rattle.fits.specs.Agree.{With, WithAreas, Over, End, SameEnd, isRefusal, Left, SameLeft}
 
 -- Two results that meet a contract agree.
 module _ {A : Type 0} where
@@ -130,6 +135,13 @@ pub record PortCalls (b : Bus) (x : ℕ) : Type 0 where
   pub find-cards : Exactly (at-port.find-cards b x) port.foundOf (port.findsCards b x)
   pub activate-card : (tag base : ℕ) → Exactly (at-port.activate-card b x tag base) port.activatedOf (port.activatesCard b x tag base)
 
+-- .. and in a lent slice
+pub record LentCalls (cards : List IdState) (x : ℕ) : Type 0 where
+  pub write : (byte : ℕ) → Exactly {A = Over Wrote} (λ r. at-port.lent-write cards x byte (r .answer) (r .cards)) (λ r. wroteOver (r .answer) (r .cards)) (port.portWrites (lent cards) x byte)
+  pub read : Exactly {A = Over Bit} (λ r. at-port.lent-read cards x (r .answer) (r .cards)) (λ r. readOver (r .answer) (r .cards)) (port.portReads (lent cards) x)
+  pub find : Exactly {A = Over Listed} (λ r. at-port.lent-find cards x (r .answer) (r .cards)) (λ r. foundOver (r .answer) (r .cards)) (port.findsCards (lent cards) x)
+  pub activate : (tag base : ℕ) → Exactly {A = Over Activation} (λ r. at-port.lent-activate cards x tag base (r .answer) (r .cards)) (λ r. activatedOver (r .answer) (r .cards)) (port.activatesCard (lent cards) x tag base)
+
 -- ---- the image's line
 
 -- A text says so many bytes; those past its length are free.
@@ -155,6 +167,8 @@ pub record Nothing-else-fits : Type 0 where
   pub hand-up : (look frame : RefT (List ℕ)) (n : ℕ) → Only (HandsUp look frame n) (λ r r′. (now r ≡ now r′) × (ptr r ≡ ptr r′))
   -- port
   pub id-port : (b : Bus) (x : ℕ) → PortCalls b x
+  -- lent_port
+  pub lent-port : (cards : List IdState) (x : ℕ) → LentCalls cards x
   -- idport, one card on the port
   pub fresh : (words : List ℕ) → Exactly (at-port.fresh words) (λ r. r) (idFresh words)
   pub id-sound : (s : IdState) → Exactly (at-port.id-sound s) (λ r. r) (idSound s)

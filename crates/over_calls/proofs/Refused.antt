@@ -7,7 +7,9 @@ use lib.ListN.{length}
 use lib.Dec.{ltb}
 use Rattle.refusal.specs.declared.Refusal.{Refusal}
 use Rattle.bits.proofs.Tests.{never}
+use Rattle.port_rules.specs.declared.IdState.{IdState}
 use Rattle.port_rules.specs.declared.Bus.{Bus}
+use Rattle.port_rules.specs.Lent.{lent, wroteOver, readOver, foundOver, activatedOver}
 use Rattle.port_rules.specs.Port.{held}
 use Rattle.port_rules.specs.Gathered.{allSound}
 use Rattle.port_rules.specs.Calls as port
@@ -32,7 +34,7 @@ use Rattle.driver_rules.specs.Paper.{openPaper, sendPaper}
 use Rattle.driver_rules.specs.Calls.{soundState, openCall, sendCall}
 use Rattle.fits.specs.Agree.{isRefusal, isRefused}
 use Rattle.fits.specs.Order.{statusRead, freeRead}
-use Rattle.over_calls.specs.Refused.{Same, Card-keeps, Driver-keeps, isNo, Port-keeps, A-refused-call-changes-nothing}
+use Rattle.over_calls.specs.Refused.{Same, Card-keeps, Driver-keeps, isNo, Port-keeps, Lent-keeps, A-refused-call-changes-nothing}
 use Rattle.over_calls.proofs.Kept as service
 
 -- ---- the card
@@ -143,5 +145,18 @@ port-keeps b x =
       activate-card = λ tag base r k e. port-kept b _ _ (port.activatedOf r) refl k e;
     }
 
+-- the slice is the bus's cards
+lent-kept : (before after : List IdState) (ok : Bool) (o r : port.Outcome) → r .bus ≡ lent after → isNo (o .reply) ≡ false → r ≡ port.judged (lent before) ok o → isNo (r .reply) ≡ true → after ≡ before
+lent-kept before after ok o r is plain k e = ap (λ (b : Bus). b .cards) (sym is ∙ port-kept (lent before) ok o r plain k e)
+
+lent-keeps : (before : List IdState) (x : ℕ) → Lent-keeps before x
+lent-keeps before x =
+    record {
+      write = λ byte r after k e. lent-kept before after _ _ (wroteOver r after) refl refl k e;
+      read = λ r after k e. lent-kept before after _ _ (readOver r after) refl refl k e;
+      find = λ r after k e. lent-kept before after _ _ (foundOver r after) refl refl k e;
+      activate = λ tag base r after k e. lent-kept before after _ _ (activatedOver r after) refl refl k e;
+    }
+
 pub a-refused-call-changes-nothing : A-refused-call-changes-nothing
-a-refused-call-changes-nothing = record { card = card-keeps; driver = driver-keeps; service = service.changes-nothing; short = service.leaves-driver-and-areas; id-port = port-keeps }
+a-refused-call-changes-nothing = record { card = card-keeps; driver = driver-keeps; service = service.changes-nothing; short = service.leaves-driver-and-areas; id-port = port-keeps; lent-port = lent-keeps }

@@ -9,6 +9,10 @@ use Rattle.port_rules.specs.declared.AfterWrite.{AfterWrite}
 use Rattle.port_rules.specs.declared.AfterRead.{AfterRead as AfterBit}
 use Rattle.port_rules.specs.declared.AfterSearch.{AfterSearch}
 use Rattle.port_rules.specs.declared.AfterActivation.{AfterActivation}
+use Rattle.port_rules.specs.declared.Wrote.{Wrote}
+use Rattle.port_rules.specs.declared.Bit.{Bit}
+use Rattle.port_rules.specs.declared.Listed.{Listed}
+use Rattle.port_rules.specs.declared.Activation.{Activation}
 use Rattle.port_rules.specs.Calls as port
 use Rattle.port_rules.specs.Contracts as at-port
 use Rattle.card_rules.specs.declared.Card.{Card}
@@ -65,6 +69,13 @@ pub record Port-keeps (b : Bus) (x : ℕ) : Type 0 where
   pub find-cards : (r : AfterSearch) → at-port.find-cards b x r → isNo (port.foundReply (r .answer)) ≡ true → r .bus ≡ b
   pub activate-card : (tag base : ℕ) (r : AfterActivation) → at-port.activate-card b x tag base r → isNo (port.activationReply (r .answer)) ≡ true → r .bus ≡ b
 
+-- .. and in a lent slice: `before` as it is lent, `after` as it comes back
+pub record Lent-keeps (before : List IdState) (x : ℕ) : Type 0 where
+  pub write : (byte : ℕ) (r : Wrote) (after : List IdState) → at-port.lent-write before x byte r after → isNo (port.wroteReply r) ≡ true → after ≡ before
+  pub read : (r : Bit) (after : List IdState) → at-port.lent-read before x r after → isNo (port.bitReply r) ≡ true → after ≡ before
+  pub find : (r : Listed) (after : List IdState) → at-port.lent-find before x r after → isNo (port.foundReply (r .answer)) ≡ true → after ≡ before
+  pub activate : (tag base : ℕ) (r : Activation) (after : List IdState) → at-port.lent-activate before x tag base r after → isNo (port.activationReply r) ≡ true → after ≡ before
+
 -- ---- all of them
 
 pub record A-refused-call-changes-nothing : Type 0 where
@@ -73,3 +84,4 @@ pub record A-refused-call-changes-nothing : Type 0 where
   pub service : A-refused-service-changes-nothing
   pub short : A-service-short-of-budget-leaves-driver-and-areas
   pub id-port : (b : Bus) (x : ℕ) → Port-keeps b x
+  pub lent-port : (before : List IdState) (x : ℕ) → Lent-keeps before x

@@ -5,3 +5,5 @@ pub mod Cut
 pub mod Reached
 pub mod Kept
 pub mod Refused
+pub mod Sends
+pub mod Host

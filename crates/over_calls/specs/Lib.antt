@@ -2,3 +2,5 @@
 pub mod Over
 pub mod Kept
 pub mod Refused
+pub mod Sends
+pub mod Host

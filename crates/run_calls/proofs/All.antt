@@ -10,7 +10,7 @@ use Rattle.run_calls.proofs.Good.{fine, good-of, Stepping, Before}
 use Rattle.run_calls.proofs.Card.{wire-starts, wire-brings, wire-ends, collides, succeeds, reads-word, reads-byte, writes-word, writes-byte, seats-written, seats-read}
 use Rattle.run_calls.proofs.Driver.{open-steps, send-steps, service-steps}
 
-one : (s s′ : State) (e : Event) (says : List Said) → Good s → Called s e s′ says → Stepping e s s′ says
+pub one : (s s′ : State) (e : Event) (says : List Said) → Good s → Called s e s′ says → Stepping e s s′ says
 one s s′ e says g (takes.wire-start first eight r ram dir h) = wire-starts s g first eight r ram dir h
 one s s′ e says g (takes.wire-byte v r ram dir h) = wire-brings s g v r ram dir h
 one s s′ e says g (takes.wire-end check alignment r ram dir h) = wire-ends s g check alignment r ram dir h

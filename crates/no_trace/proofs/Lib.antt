@@ -2,8 +2,6 @@
 pub mod Closing
 pub mod Examples
 pub mod Noise
-pub mod Opened
 pub mod Rest
 pub mod Shapes
-pub mod Status
 pub mod Trace

@@ -29,9 +29,9 @@ use Rattle.driver_rules.specs.Service.{lookTalk, receiveTalk, dropTalk}
 use Rattle.driver_rules.specs.Calls.{serviceCall}
 use Rattle.driver_rules.specs.Paper.{Paper, servicePaper}
 use Rattle.runs.specs.Run.{Bench, Areas, full, Service, serves, next, said}
+use Rattle.runs.proofs.Status.{shown, seen-failed, seen-completed}
+use Rattle.runs.proofs.Opened.{Set, fine-status, fine-rx, fine-discard}
 use Rattle.no_trace.specs.Stretch.{isIdle, answersIdle}
-use Rattle.no_trace.proofs.Status.{shown, seen-failed, seen-completed}
-use Rattle.no_trace.proofs.Opened.{Set, fine-status, fine-rx, fine-discard}
 
 -- nothing for the driver but frames
 pub record Calm (a : Adapter) : Type 0 where

@@ -32,7 +32,7 @@ use Rattle.driver_rules.specs.Talk.{Ran, run, extended}
 use Rattle.driver_rules.specs.declared.Answer.the-variants.{Idle}
 use Rattle.driver_rules.specs.Items.{Serving, plain, short, idleTalk}
 use Rattle.driver_rules.specs.Service.{lookTalk}
-use Rattle.no_trace.proofs.Status.{shown, seen-failed, seen-completed, seen-received}
+use Rattle.runs.proofs.Status.{shown, seen-failed, seen-completed, seen-received}
 
 -- ---- the shapes
 

@@ -23,12 +23,12 @@ use Rattle.driver_rules.specs.declared.Driver.{Driver}
 use Rattle.runs.specs.Run.{Bench, soundBench, full, Event, Start, Byte, End, Sent, Collided, Open, Send, Service, Said, told, refused, wire, refusing, next, said, after, sayings, since}
 use Rattle.runs.proofs.Kept.{adapter-of, next-sound, after-sound, since-sound}
 use Rattle.runs.proofs.Append.{after-append, sayings-append}
+use Rattle.runs.proofs.Opened.{Opened, opens-set, opens-driver, keeps-open, keeps-all}
 use Rattle.no_trace.specs.Stretch.{answersIdle, heard, calls, givesCode, Stretch, begun, whole-frame, closing, quiet, Damaged, Part, event, stretch, withFrames, withoutFrames, AllDamaged}
 use Rattle.no_trace.specs.NoTrace.{handedUp, SameAnswers, Damaged-frames-leave-no-trace}
 use Rattle.no_trace.proofs.Shapes.{calm, Settled}
 use Rattle.no_trace.proofs.Noise.{bench, start-beside, end-silent, all-beside}
 use Rattle.no_trace.proofs.Closing.{Closes, closes-after}
-use Rattle.no_trace.proofs.Opened.{Opened, opens-set, opens-driver, keeps-open, keeps-all}
 use Rattle.no_trace.proofs.Rest.{Calm, served-calm}
 
 -- ---- an open bench at rest, by its shape

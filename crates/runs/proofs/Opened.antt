@@ -1,4 +1,4 @@
--- What open sets stays so under the driver's calls, the wire and the outcomes; and what an idle answer tells. Assumes nothing.
+-- What open sets stays so under the driver's calls, the wire and the outcomes. Assumes nothing.
 use mathlib.Core.Path.{_≡_, refl, ap, sym, _∙_, subst⁻¹}
 use mathlib.Core.Bool.{Bool, true, false, not, _&&_, _||_}
 use mathlib.Core.List.{List, [], _∷_}
@@ -31,8 +31,8 @@ use Rattle.driver_rules.specs.Send.{Sending, sendTalk}
 use Rattle.driver_rules.specs.Items.{Serving, isError, seen, reports, reportTalk, idleTalk, fetchTalk, wordsIn}
 use Rattle.driver_rules.specs.Service.{lookTalk, receiveTalk, dropTalk}
 use Rattle.driver_rules.specs.Calls.{openCall, sendCall, serviceCall}
 use Rattle.runs.specs.Run.{Bench, full, Event, Start, Byte, End, Sent, Collided, Open, Send, Service, opens, sends, serves, wire, taken, next, after}
-use Rattle.no_trace.proofs.Status.{shown}
+use Rattle.runs.proofs.Status.{shown}
 
 -- An active card has the window and the masks that open set.
 pub record Set (a : Adapter) : Type 0 where

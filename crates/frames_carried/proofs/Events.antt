@@ -39,7 +39,7 @@ use Rattle.runs.proofs.Kept.{adapter-of, next-sound}
 use Rattle.frames_carried.specs.Bytes.{octets, holdable, octetsOf, wireOctets}
 use Rattle.frames_carried.specs.Brings.{stored, good, newest, hears, noCode, arrives, arrived}
 use Rattle.frames_carried.specs.Reads.{offered, reads, hostReads}
-use Rattle.frames_carried.specs.Carried.{Unread, What-the-wire-brings-is-what-the-host-reads}
+use Rattle.frames_carried.specs.Carried.{Unread, Nothing-else-is-read}
 use Rattle.frames_carried.proofs.Still.{Still, still-open, still-send, isFrame, quiet-refused}
 use Rattle.frames_carried.proofs.Good.{offered-some, good-start, good-byte, good-end, Intact, intact-outset, intact-start, intact-byte, holds-start, holds-byte, holds-end}
 use Rattle.frames_carried.proofs.Service.{Sane, Tells, as-frame, as-other, Carries, Goes, quiet, look-carries}
@@ -282,7 +282,7 @@ carry (e ∷ es) heard b s u i o =
       again = r .again;
     }
 
-pub as-they-came : What-the-wire-brings-is-what-the-host-reads
+pub as-they-came : Nothing-else-is-read
 as-they-came b s u es o =
     let r = carry es (newest (stored b)) b s u (λ _. intact-outset (stored b)) o in
     record { as-they-came = r .carried; again = r .again }

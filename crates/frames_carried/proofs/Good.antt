@@ -28,7 +28,7 @@ good-append [] gs = refl
 good-append (f ∷ fs) gs = rw (good-append fs gs, append-assoc)
 
 -- a frame that is coming is none
-coming-none : (s : State) (bytes : List ℕ) → isComing s ≡ true → ifGood s bytes ≡ []
+pub coming-none : (s : State) (bytes : List ℕ) → isComing s ≡ true → ifGood s bytes ≡ []
 unfolding isComing ifGood
 coming-none (coming o) bytes c = refl
 coming-none whole bytes c = never c

@@ -4,6 +4,8 @@ pub mod Events
 pub mod Example
 pub mod Fetch
 pub mod Good
+pub mod Left
+pub mod Less
 pub mod Memory
 pub mod One
 pub mod Service

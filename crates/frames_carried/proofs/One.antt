@@ -127,7 +127,7 @@ laid-in bytes s = way (leb (length bytes) 256)
     way false = refl
 
 -- a call on an open driver with full areas looks
-looks : (d : Driver) (areas : Bool) (budget : ℕ) → d .opened ≡ true → areas ≡ true → serviceCall true areas d budget ≡ lookTalk budget d
+pub looks : (d : Driver) (areas : Bool) (budget : ℕ) → d .opened ≡ true → areas ≡ true → serviceCall true areas d budget ≡ lookTalk budget d
 unfolding serviceCall
 looks d areas budget y g =
     ap (λ (o : Bool). cond (not o) (done (plain (answer.Refused NeverOpened) d)) (cond (not areas) (done (plain (answer.Refused AreaShort) d)) (lookTalk budget d))) y

@@ -98,7 +98,7 @@ read-rx a f fs s y w r e =
     status-access a y w ∙ ap (step (reading.rxStatus (a .rx .receiver .read) (a .rx .frames))) (settle-stays a s)
     ∙ ap (λ (n : ℕ). step (reading.rxStatus n (a .rx .frames)) a) r ∙ ap (λ (l : List Frame). step (reading.rxStatus 0 l) a) e
 
-sized-of : (a : Adapter) (f : Frame) (fs : List Frame) → sound a ≡ true → a .rx .frames ≡ f ∷ fs → length (f .bytes) ≤ 1792
+pub sized-of : (a : Adapter) (f : Frame) (fs : List Frame) → sound a ≡ true → a .rx .frames ≡ f ∷ fs → length (f .bytes) ≤ 1792
 sized-of a f fs s e =
     let k = sound-told (rxRoom a) (a .rx) (rx-of a s) .0 in
     oldest-sized (eqb (a .rx .receiver .wire) 2) f fs (subst (λ (l : List Frame). inOrder (eqb (a .rx .receiver .wire) 2) l ≡ true) e (k .order))
@@ -198,7 +198,7 @@ none : {l : List (List ℕ)} → l ≡ [] → l ≡ offered []
 unfolding offered
 none e = e
 
-sane-drop : (a : Adapter) (f : Frame) (fs : List Frame) → Ended a f fs → Sane (dropped a f fs)
+pub sane-drop : (a : Adapter) (f : Frame) (fs : List Frame) → Ended a f fs → Sane (dropped a f fs)
 unfolding settle withoutOldest
 sane-drop a f fs h =
     let e = discard-access a (h .active) (h .window) f fs (h .sane .failed) (h .shape) in

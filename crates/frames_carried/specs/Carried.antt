@@ -1,9 +1,10 @@
--- Demand 2: what the wire brings is what the host reads. Assumes nothing.
+-- Demand 2: what the wire brings is what the host reads. The promise stands at the end. Assumes nothing.
 use mathlib.Core.Path.{_≡_}
-use mathlib.Core.Bool.{true, false}
+use mathlib.Core.Bool.{Bool, true, false, _&&_}
 use mathlib.Core.List.{List, [], _∷_, _++_, map}
-use Prim.Native.Nat.{ℕ, _+_, _≤_}
+use Prim.Native.Nat.{ℕ, _+_, _*_, _≤_}
 use lib.ListN.{length}
+use lib.Dec.{leb}
 use Rattle.store.specs.Store.{round4}
 use Rattle.receive_rules.specs.Frame.{whole, Frame, room}
 use Rattle.receive_rules.specs.Wire.{passes}
@@ -13,7 +14,7 @@ use Rattle.card_rules.specs.Status.{failure}
 use Rattle.card_rules.specs.View.{view}
 use Rattle.driver_rules.specs.Items.{wordsIn}
 use Rattle.driver_rules.specs.Paper.{frame}
-use Rattle.runs.specs.Run.{Bench, soundBench, Areas, full, Event, Start, Byte, End, Service, served, wire, next, said, after, sayings}
+use Rattle.runs.specs.Run.{Bench, soundBench, Areas, full, Event, Start, Byte, End, Open, Service, Earlier, served, wire, next, said, after, sayings, since}
 use Rattle.runs.specs.Sound.{fresh}
 use Rattle.frames_carried.specs.Bytes.{octets, holdable, dirWords, wireOctets, between, bytesIn}
 use Rattle.frames_carried.specs.Brings.{stored, good, newest, arrived}
@@ -34,8 +35,8 @@ pub record Carried (es : List Event) (b : Bench) : Type 0 where
   pub again : Unread (after es b)
 
 -- From any sound card and driver, whatever the driver is asked and the wire and the transmitter do from there on.
-abbrev pub What-the-wire-brings-is-what-the-host-reads : Type 0
-What-the-wire-brings-is-what-the-host-reads = (b : Bench) → soundBench b ≡ true → Unread b → (es : List Event) → wireOctets es ≡ true → Carried es b
+abbrev pub Nothing-else-is-read : Type 0
+Nothing-else-is-read = (b : Bench) → soundBench b ≡ true → Unread b → (es : List Event) → wireOctets es ≡ true → Carried es b
 
 -- It is so at power-on, and no card's memory holds another store.
 pub record Stores-are-such : Type 0 where
@@ -98,3 +99,62 @@ abbrev pub One-good-frame-is-handed-up : Type 0
 One-good-frame-is-handed-up =
     (b : Bench) → soundBench b ≡ true →
     (bytes : List ℕ) (behind : List Frame) (budget : ℕ) (s : Areas) → Waiting bytes behind budget s b → HandedUp bytes behind budget s b
+
+-- ---- nothing good is left behind
+
+-- Any sound card and driver, any history, then an open, then any events: so the driver is open, and a card that is active is in window 1 and hides nothing.
+pub data AfterOpen : Bench → Type 0 where
+  after-open : (b : Bench) → soundBench b ≡ true → (history : List Earlier) (w₀ w₁ w₂ : ℕ) (es : List Event) → AfterOpen (after es (next (Open w₀ w₁ w₂) (since history b)))
+
+-- a service call: its budget, and the areas that it is lent
+pub record Call : Type 0 where
+  pub budget : ℕ
+  pub areas : Areas
+
+abbrev pub services : List Call → List Event
+services cs = map (λ c. Service (c .budget) (c .areas)) cs
+
+-- Each has full areas; and Status, RX Status and RX Discard for each of n frames, with the 757 words of the longest.
+unfoldable pub ample : ℕ → List Call → Bool
+ample n [] = true
+ample n (c ∷ cs) = full (c .areas) && (leb (3 * n + 757) (c .budget) && ample n cs)
+
+pub record Enough (cs : List Call) (b : Bench) : Type 0 where
+  -- an inactive card answers 5,
+  pub active : b .adapter .id .active ≡ true
+  -- and so does an Adapter Failure
+  pub no-failure : failure (b .adapter) ≡ false
+  -- a short area answers 7, a short budget 6
+  pub each : ample (length (stored b)) cs ≡ true
+  -- a call reports a status while one stands, else it hands up a frame: so there is one for each
+  pub calls : length (b .adapter .tx .reports .statuses) + length (good (stored b)) ≤ length cs
+
+-- A sound card stores 768 frames at most: so a budget of 3,061 is enough for any call.
+abbrev pub A-budget-of-3061-is-enough : Type 0
+A-budget-of-3061-is-enough = (b : Bench) → soundBench b ≡ true → (c : Call) → full (c .areas) ≡ true → 3061 ≤ c .budget → ample (length (stored b)) (c ∷ []) ≡ true
+
+-- Whatever came before, once such calls are made the host has read every good frame that was stored or has arrived.
+abbrev pub Nothing-good-is-left-behind : Type 0
+Nothing-good-is-left-behind =
+    (b : Bench) → AfterOpen b → Unread b → (es : List Event) → wireOctets es ≡ true → (cs : List Call) → Enough cs (after es b) →
+    hostReads (sayings (es ++ services cs) b) ≡ good (stored b) ++ arrived es (newest (stored b)) b
+
+-- So a good frame that fits is handed up, whatever is called and sent while it comes: its bytes are the last that the host has read.
+abbrev pub goodAmong : (first : List ℕ) → length first ≡ 8 → List Event → List Event
+goodAmong first eight es = Start first eight ∷ (es ++ (End true true ∷ []))
+
+abbrev pub A-good-frame-is-handed-up : Type 0
+A-good-frame-is-handed-up =
+    (b : Bench) → AfterOpen b → Unread b →
+    (first : List ℕ) (eight : length first ≡ 8) (es : List Event) → between es ≡ true → wireOctets (Start first eight ∷ es) ≡ true → Taken first (bytesIn es) b →
+    (cs : List Call) → Enough cs (after (goodAmong first eight es) b) →
+    hostReads (sayings (goodAmong first eight es ++ services cs) b) ≡ good (stored b) ++ ((first ++ bytesIn es) ∷ [])
+
+-- ---- the promise
+
+pub record What-the-wire-brings-is-what-the-host-reads : Type 0 where
+  -- nothing else, from any sound state
+  pub nothing-else : Nothing-else-is-read
+  -- and all of it, from any state after an open
+  pub nothing-left : Nothing-good-is-left-behind
+  pub good-frame : A-good-frame-is-handed-up

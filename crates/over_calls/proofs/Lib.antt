@@ -7,3 +7,4 @@ pub mod Kept
 pub mod Refused
 pub mod Sends
 pub mod Host
+pub mod Frames

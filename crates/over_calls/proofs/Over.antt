@@ -15,7 +15,7 @@ use Rattle.run_calls.proofs.Good.{sound-of, driver-of}
 use Rattle.run_calls.proofs.All.{take-the-steps}
 use Rattle.over_calls.specs.Over.{No-trace-over-calls}
 
-bridge : (s : State) → Good s → soundBench (seen s) ≡ true
+pub bridge : (s : State) → Good s → soundBench (seen s) ≡ true
 bridge s g = join (sound (view (s .card) (s .ram) (s .dir))) (driverSound (s .driver)) (sound-of s g .calm) (driver-of s g)
 
 pub over-calls : No-trace-over-calls

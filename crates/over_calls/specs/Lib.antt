@@ -4,3 +4,4 @@ pub mod Kept
 pub mod Refused
 pub mod Sends
 pub mod Host
+pub mod Frames

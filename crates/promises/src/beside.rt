@@ -4,7 +4,7 @@ ghost use Rattle.no_trace.specs.Examples.{Two-stretches, A-budget-of-4-leaves-a
 ghost use Rattle.no_trace.specs.Wrong.{Wrong-services-hand-up-damage};
 ghost use Rattle.sends_carried.specs.Carried.{A-send-answers-by-the-table, A-packet-is-stored-whole, A-success-tells-the-bytes, Clear-states};
 ghost use Rattle.sends_carried.specs.Rooms.{Bench-rows-of-TX-Free};
-ghost use Rattle.frames_carried.specs.Carried.{Stores-are-such, A-good-frame-arrives, One-good-frame-is-stored, One-good-frame-is-handed-up};
+ghost use Rattle.frames_carried.specs.Carried.{Stores-are-such, A-good-frame-arrives, One-good-frame-is-stored, One-good-frame-is-handed-up, A-budget-of-3061-is-enough};
 ghost use Rattle.fits.specs.Free.{The-memory-is-left-free};
 ghost use Rattle.fits.specs.Order.{Refusals-come-in-order};
 ghost use Rattle.driver_rules.specs.Unfit.{Unfit-comes-at-once};
@@ -102,6 +102,11 @@ pub fn one_good_frame_is_stored()
 // The oldest frame, if it is good, is handed up byte for byte, with its words and 3 accesses more.
 pub fn one_good_frame_is_handed_up()
     ensures { λ _. ⌜ One-good-frame-is-handed-up ⌝ }
+{}
+
+// A budget of 3,061 is enough for any service, whatever is stored.
+pub fn a_budget_of_3061_is_enough()
+    ensures { λ _. ⌜ A-budget-of-3061-is-enough ⌝ }
 {}
 
 // The one thing left open, the memory that the view does not show, is open.

@@ -10,6 +10,7 @@ ghost use Rattle.run_calls.specs.Takes.{The-calls-take-the-steps};
 ghost use Rattle.sends_carried.specs.Host.{Host-packets-go-on-the-wire};
 ghost use Rattle.frames_carried.specs.Host.{Host-reads-bring-the-frame};
 ghost use Rattle.over_calls.specs.Over.{No-trace-over-calls};
+ghost use Rattle.over_calls.specs.Frames.{Frames-over-calls};
 ghost use Rattle.over_calls.specs.Refused.{A-refused-call-changes-nothing};
 
 mod beside; // beside.rt: what stands beside the promises
@@ -34,9 +35,15 @@ pub fn sends_are_carried()
     ensures { λ _. ⌜ Sends-are-carried ⌝ }
 {}
 
-// Demand 2: what the wire brings is what the host reads, each good frame once, in order, byte for byte, and nothing else.
+// Demand 2: what the wire brings is what the host reads, each good frame once, in order, byte for byte. Nothing else is read;
+// and after an open nothing good is left behind: service calls enough hand up every good frame that fits.
 pub fn what_the_wire_brings_is_what_the_host_reads()
     ensures { λ _. ⌜ What-the-wire-brings-is-what-the-host-reads ⌝ }
+{}
+
+// .. and so over public calls, from any state that passes the code's own test, through any calls of which nothing is known but their contracts.
+pub fn frames_over_calls()
+    ensures { λ _. ⌜ Frames-over-calls ⌝ }
 {}
 
 // Demand 2 for a host that needs no driver: a packet written whole by register writes goes on the wire as it was written.

@@ -22,7 +22,7 @@ use Rattle.runs.proofs.Opened.{Opened, opens-set, opens-driver, keeps-open, kee
 use Rattle.frames_carried.specs.Bytes.{octetsOf, wireOctets}
 use Rattle.frames_carried.specs.Brings.{stored, good, newest, hears, arrives, arrived}
 use Rattle.frames_carried.specs.Reads.{hostReads}
-use Rattle.frames_carried.specs.Carried.{Unread, AfterOpen, after-open, Call, services, ample, A-budget-of-3061-is-enough, Nothing-good-is-left-behind, A-good-frame-is-handed-up, What-the-wire-brings-is-what-the-host-reads}
+use Rattle.frames_carried.specs.Carried.{Unread, AfterOpen, after-open, Call, services, needed, ample, A-budget-of-3061-is-enough, Nothing-good-is-left-behind, A-good-frame-is-handed-up, What-the-wire-brings-is-what-the-host-reads}
 use Rattle.frames_carried.proofs.One.{looks}
 use Rattle.frames_carried.proofs.Events.{sane-of, serve-carries, as-they-came}
 use Rattle.frames_carried.proofs.Arrive.{good-arrives}
@@ -38,7 +38,7 @@ record Ready (b : Bench) : Type 0 where
   failed : b .adapter .tx .queue .failed ≡ false
 
 module _ (budget : ℕ) (s : Areas) (b : Bench) (h : Ready b) where
-  serve-less : full s ≡ true → 3 * length (stored b) + 757 ≤ budget → Less (b .adapter) (next (Service budget s) b .adapter)
+  serve-less : full s ≡ true → needed (length (stored b)) ≤ budget → Less (b .adapter) (next (Service budget s) b .adapter)
   unfolding next serves
   serve-less y k =
       subst⁻¹ (λ (t : Talk Serving). Less (b .adapter) (run t (b .adapter) .adapter)) (looks (b .driver) (full s) budget (h .opened .driver) y)
@@ -65,9 +65,9 @@ drained : (cs : List Call) (n : ℕ) (b : Bench) → Ready b → length (stored 
 unfolding after ample
 drained [] n b h few k w = none-left (good (stored b)) (omega arith)
 drained (c ∷ cs) n b h few k w =
-    let p = both (full (c .areas)) (leb (3 * n + 757) (c .budget) && ample n cs) k in
-    let q = both (leb (3 * n + 757) (c .budget)) (ample n cs) (p .1) in
-    let l = serve-less (c .budget) (c .areas) b h (p .0) (omega (arith, leb-true (3 * n + 757) (c .budget) (q .0))) in
+    let p = both (full (c .areas)) (leb (needed n) (c .budget) && ample n cs) k in
+    let q = both (leb (needed n) (c .budget)) (ample n cs) (p .1) in
+    let l = serve-less (c .budget) (c .areas) b h (p .0) (omega (arith, leb-true (needed n) (c .budget) (q .0))) in
     drained cs n (next (Service (c .budget) (c .areas)) b) (serve-ready (c .budget) (c .areas) b h l) (omega (arith, l .fewer)) (q .1) (omega (arith, l .falls))
 
 -- ---- 8 bytes at least for each frame, 6,144 at most for all
@@ -78,7 +78,7 @@ budget-enough b s c y k =
     let r = sound-told (rxRoom (b .adapter)) (b .adapter .rx) (rx-of (b .adapter) (adapter-of b s)) .0 in
     let n = order-count (eqb (b .adapter .rx .receiver .wire) 2) (stored b) (r .order) in
     join (full (c .areas)) _ y
-    (join (leb (3 * length (stored b) + 757) (c .budget)) true (le-leb (3 * length (stored b) + 757) (c .budget) (omega (arith, r .space, rx-small (b .adapter .config .second % 4)))) refl)
+    (join (leb (needed (length (stored b))) (c .budget)) true (le-leb (needed (length (stored b))) (c .budget) (omega (arith, r .space, rx-small (b .adapter .config .second % 4)))) refl)
 
 -- ---- services bring nothing
 
@@ -130,9 +130,9 @@ nothing-left b a u es o cs h =
       unread = as-they-came b (k .sound) u es o .again;
       opened = keeps-all es b (k .opened);
       active = h .active;
-      failed = neither (c .adapter .rx .receiver .failed) (c .adapter .tx .queue .failed) (h .no-failure) .1;
+      failed = neither (c .adapter .rx .receiver .failed) (c .adapter .tx .queue .failed) (h .no-adapter-failure) .1;
     } in
-    let none : good (stored (after all b)) ≡ [] = ap (λ (x : Bench). good (stored x)) (after-append es (services cs) b) ∙ drained cs (length (stored c)) c ready (omega arith) (h .each) (h .calls) in
+    let none : good (stored (after all b)) ≡ [] = ap (λ (x : Bench). good (stored x)) (after-append es (services cs) b) ∙ drained cs (length (stored c)) c ready (omega arith) (h .each) (omega (arith, h .calls)) in
     sym
     (ap (λ (l : List (List ℕ)). good (stored b) ++ l) (sym (brings-same es cs (newest (stored b)) b)) ∙ r .as-they-came
     ∙ ap (λ (l : List (List ℕ)). hostReads (sayings all b) ++ l) none ∙ append-nil (hostReads (sayings all b)))

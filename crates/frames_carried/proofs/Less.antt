@@ -37,6 +37,7 @@ use Rattle.driver_rules.specs.Service.{lookTalk, receiveTalk, dropTalk}
 use Rattle.runs.proofs.Status.{shown, seen-failed, seen-completed, seen-received}
 use Rattle.frames_carried.specs.Bytes.{holdable}
 use Rattle.frames_carried.specs.Brings.{ifGood, good, isWhole}
+use Rattle.frames_carried.specs.Carried.{needed}
 use Rattle.frames_carried.proofs.Still.{still-run, Nothing, quiet-report, quiet-idle}
 use Rattle.frames_carried.proofs.Good.{coming-none, oldest-of, holds-first, shows, fine-status, bad-none, one-good}
 use Rattle.frames_carried.proofs.Fetch.{At, discard-access}
@@ -255,7 +256,7 @@ less-then a b f fs e none q =
 mutual
   unfolding lookTalk receiveTalk dropTalk run
 
-  pub look-less : (n : ℕ) (d : Driver) (a : Adapter) → Fit a → 3 * length (a .rx .frames) + 757 ≤ n → Less a (run (lookTalk n d) a .adapter)
+  pub look-less : (n : ℕ) (d : Driver) (a : Adapter) → Fit a → needed (length (a .rx .frames)) ≤ n → Less a (run (lookTalk n d) a .adapter)
   look-less zero d a h k = absurd (omega arith)
   look-less (suc left) d a h k =
       let turn : ℕ → Talk Serving =
@@ -267,7 +268,7 @@ mutual
       (λ n. of-test P (rxComplete (statusWord a)) (λ y. receive-less left d a h (sym (sees-frames a h) ∙ y) (omega arith))
       (λ e. idle-less left d a h (sym (sees-statuses a h) ∙ n) (sym (sees-frames a h) ∙ e)))))
 
-  receive-less : (n : ℕ) (d : Driver) (a : Adapter) → Fit a → complete (a .rx .frames) ≡ true → 3 * length (a .rx .frames) + 756 ≤ n → Less a (run (receiveTalk n d) a .adapter)
+  receive-less : (n : ℕ) (d : Driver) (a : Adapter) → Fit a → complete (a .rx .frames) ≡ true → needed (length (a .rx .frames)) ≤ n + 1 → Less a (run (receiveTalk n d) a .adapter)
   receive-less zero d a h y k = absurd (omega arith)
   receive-less (suc left) d a h y k =
       let o = oldest-of (a .rx .frames) y in
@@ -286,7 +287,7 @@ mutual
       let g = fine-status (f .state) (length (f .bytes)) (o .over) code size b in
       subst⁻¹ (λ (i : ℕ). P (fetchTalk left d i)) (g .count) (fetch-less left d a f fs h e (g .whole) (g .long) (g .short) (omega arith))))
 
-  discard-less : (n : ℕ) (d : Driver) (a : Adapter) (f : Frame) (fs : List Frame) → Fit a → Ended a f fs → ifGood (f .state) (f .bytes) ≡ [] → 3 * length fs + 758 ≤ n
+  discard-less : (n : ℕ) (d : Driver) (a : Adapter) (f : Frame) (fs : List Frame) → Fit a → Ended a f fs → ifGood (f .state) (f .bytes) ≡ [] → needed (length fs) + 1 ≤ n
       → Less a (run (dropTalk n d) a .adapter)
   discard-less zero d a f fs h o none k = absurd (omega arith)
   discard-less (suc left) d a f fs h o none k =

@@ -114,16 +114,20 @@ pub record Call : Type 0 where
 abbrev pub services : List Call → List Event
 services cs = map (λ c. Service (c .budget) (c .areas)) cs
 
--- Each has full areas; and Status, RX Status and RX Discard for each of n frames, with the 757 words of the longest.
+-- Status, RX Status and RX Discard for each of n frames, and the 757 words of the longest
+abbrev pub needed : ℕ → ℕ
+needed n = 3 * n + 757
+
+-- Each call has full areas, and a budget for n frames.
 unfoldable pub ample : ℕ → List Call → Bool
 ample n [] = true
-ample n (c ∷ cs) = full (c .areas) && (leb (3 * n + 757) (c .budget) && ample n cs)
+ample n (c ∷ cs) = full (c .areas) && (leb (needed n) (c .budget) && ample n cs)
 
 pub record Enough (cs : List Call) (b : Bench) : Type 0 where
   -- an inactive card answers 5,
   pub active : b .adapter .id .active ≡ true
   -- and so does an Adapter Failure
-  pub no-failure : failure (b .adapter) ≡ false
+  pub no-adapter-failure : failure (b .adapter) ≡ false
   -- a short area answers 7, a short budget 6
   pub each : ample (length (stored b)) cs ≡ true
   -- a call reports a status while one stands, else it hands up a frame: so there is one for each

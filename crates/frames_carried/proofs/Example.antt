@@ -48,7 +48,7 @@ use Rattle.frames_carried.specs.Reads.{offered, reads, hostReads}
 use Rattle.frames_carried.specs.Bytes.{octets, holdable, octetsOf, wireOctets}
 use Rattle.frames_carried.specs.Carried.{goodFrame, Unread, Carried, AfterOpen, after-open, Call, services, ample, Enough}
 use Rattle.frames_carried.proofs.Events.{as-they-came}
-use Rattle.frames_carried.proofs.Left.{nothing-left}
+use Rattle.frames_carried.proofs.NoneLeft.{nothing-left}
 
 -- the accesses that a service tells
 unfoldable used : Said → ℕ

@@ -4,10 +4,10 @@ pub mod Events
 pub mod Example
 pub mod Fetch
 pub mod Good
-pub mod Left
-pub mod Less
 pub mod Memory
+pub mod NoneLeft
 pub mod One
+pub mod OneLess
 pub mod Service
 pub mod Still
 pub mod Host

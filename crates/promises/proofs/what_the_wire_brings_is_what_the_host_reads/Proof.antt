@@ -1,5 +1,5 @@
 -- `promises::what_the_wire_brings_is_what_the_host_reads` meets its contract, by the law `brings-and-reads`. Assumes nothing.
-use Rattle.frames_carried.proofs.Left.{brings-and-reads}
+use Rattle.frames_carried.proofs.NoneLeft.{brings-and-reads}
 use Rattle.promises.proofs.what_the_wire_brings_is_what_the_host_reads.Statement.{statement}
 use Rattle.promises.proofs.what_the_wire_brings_is_what_the_host_reads.Tie as tie
 

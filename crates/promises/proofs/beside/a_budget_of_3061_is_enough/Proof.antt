@@ -1,5 +1,5 @@
 -- `beside::a_budget_of_3061_is_enough` meets its contract, by the law `budget-enough`. Assumes nothing.
-use Rattle.frames_carried.proofs.Left.{budget-enough}
+use Rattle.frames_carried.proofs.NoneLeft.{budget-enough}
 use Rattle.promises.proofs.beside.a_budget_of_3061_is_enough.Statement.{statement}
 use Rattle.promises.proofs.beside.a_budget_of_3061_is_enough.Tie as tie
 

@@ -22,11 +22,11 @@ use Rattle.runs.proofs.Opened.{Opened, opens-set, opens-driver, keeps-open, kee
 use Rattle.frames_carried.specs.Bytes.{octetsOf, wireOctets}
 use Rattle.frames_carried.specs.Brings.{stored, good, newest, hears, arrives, arrived}
 use Rattle.frames_carried.specs.Reads.{hostReads}
-use Rattle.frames_carried.specs.Carried.{Unread, AfterOpen, after-open, Call, services, needed, ample, A-budget-of-3061-is-enough, Nothing-good-is-left-behind, A-good-frame-is-handed-up, What-the-wire-brings-is-what-the-host-reads}
+use Rattle.frames_carried.specs.Carried.{Unread, AfterOpen, after-open, Call, services, needed, ample, A-budget-of-3061-is-enough, Nothing-good-is-left-behind, goodAmong, A-good-frame-is-handed-up, What-the-wire-brings-is-what-the-host-reads}
 use Rattle.frames_carried.proofs.One.{looks}
 use Rattle.frames_carried.proofs.Events.{sane-of, serve-carries, as-they-came}
 use Rattle.frames_carried.proofs.Arrive.{good-arrives}
-use Rattle.frames_carried.proofs.Less.{waits, Less, look-less}
+use Rattle.frames_carried.proofs.OneLess.{waits, Less, look-less}
 
 -- ---- calls one after the other
 
@@ -137,10 +137,10 @@ nothing-left b a u es o cs h =
     (ap (λ (l : List (List ℕ)). good (stored b) ++ l) (sym (brings-same es cs (newest (stored b)) b)) ∙ r .as-they-came
     ∙ ap (λ (l : List (List ℕ)). hostReads (sayings all b) ++ l) none ∙ append-nil (hostReads (sayings all b)))
 
-good-frame : A-good-frame-is-handed-up
+pub good-frame : A-good-frame-is-handed-up
 unfolding wireOctets octetsOf
 good-frame b a u first eight es k o t cs h =
-    nothing-left b a u (Start first eight ∷ (es ++ (End true true ∷ []))) (octets-append (Start first eight ∷ es) (End true true ∷ []) o refl) cs h
+    nothing-left b a u (goodAmong first eight es) (octets-append (Start first eight ∷ es) (End true true ∷ []) o refl) cs h
     ∙ ap (λ (l : List (List ℕ)). good (stored b) ++ l) (good-arrives b (known b a .sound) u first eight es k o t (newest (stored b)))
 
 pub brings-and-reads : What-the-wire-brings-is-what-the-host-reads

@@ -123,6 +123,7 @@ unfoldable pub ample : ℕ → List Call → Bool
 ample n [] = true
 ample n (c ∷ cs) = full (c .areas) && (leb (needed n) (c .budget) && ample n cs)
 
+-- At b none of the calls cs is refused, and none is missing.
 pub record Enough (cs : List Call) (b : Bench) : Type 0 where
   -- an inactive card answers 5,
   pub active : b .adapter .id .active ≡ true
@@ -143,10 +144,11 @@ Nothing-good-is-left-behind =
     (b : Bench) → AfterOpen b → Unread b → (es : List Event) → wireOctets es ≡ true → (cs : List Call) → Enough cs (after es b) →
     hostReads (sayings (es ++ services cs) b) ≡ good (stored b) ++ arrived es (newest (stored b)) b
 
--- So a good frame that fits is handed up, whatever is called and sent while it comes: its bytes are the last that the host has read.
+-- a frame with both flags good, and the events while it comes
 abbrev pub goodAmong : (first : List ℕ) → length first ≡ 8 → List Event → List Event
 goodAmong first eight es = Start first eight ∷ (es ++ (End true true ∷ []))
 
+-- So a good frame that fits is handed up, whatever is called and sent while it comes: its bytes are the last that the host has read.
 abbrev pub A-good-frame-is-handed-up : Type 0
 A-good-frame-is-handed-up =
     (b : Bench) → AfterOpen b → Unread b →

@@ -1,5 +1,7 @@
-// The TX status stack: at most 31 entries, oldest first. It is lent to `push` and `pop`, so that its entries change in the place where the card keeps them.
-ghost use Rattle.transmit_rules.specs.Stack.{stack, Room, Few, Stacks, added, rest};
+// The TX status stack: at most 31 entries, oldest first. It is lent to `push` and `pop`, which lend its entries and its count on, so that they change in the place where the card keeps them.
+ghost use mathlib.Core.Path.{_≡_};
+ghost use lib.ListN.{length};
+ghost use Rattle.transmit_rules.specs.Stack.{both, stack, Room, Few, Stacks, added, rest};
 use transmit_rules::Statuses;
 
 // One more status, the newest, in the lent stack.
@@ -7,7 +9,7 @@ pub fn push(s: &mut Statuses, v: u8)
     requires { ⌜ Room (now s) ⌝ }
     ensures { λ _. ⌜ Stacks (now (s .exit)) (added v (stack (now (s .entry)))) ⌝ }
 {
-    *s = pushed(*s, v);
+    put_newest(&mut s.entries, &mut s.count, v);
 }
 
 // The oldest status goes from the lent stack; an empty one stays.
@@ -15,37 +17,33 @@ pub fn pop(s: &mut Statuses)
     requires { ⌜ Few (now s) ⌝ }
     ensures { λ _. ⌜ Stacks (now (s .exit)) (rest (stack (now (s .entry)))) ⌝ }
 {
-    *s = popped(*s);
+    take_oldest(&mut s.entries, &mut s.count);
 }
 
-// The stack with one more status.
-fn pushed(s: Statuses, v: u8) -> Statuses
-    requires { ⌜ Room s ⌝ }
-    ensures { λ r. ⌜ Stacks r (added v (stack s)) ⌝ }
+// One entry and the count change. That 31 are lent is asked for: behind a reference an array does not tell its length.
+fn put_newest(entries: &mut [u8; 31], count: &mut usize, v: u8)
+    requires { ⌜ (length (now entries) ≡ 31) × Room (both (now entries) (now count)) ⌝ }
+    ensures { λ _. ⌜ Stacks (both (now (entries .exit)) (now (count .exit))) (added v (stack (both (now (entries .entry)) (now (count .entry))))) ⌝ }
 {
-    let n = s.count;
-    let mut next = s;
-    next.entries[n] = v;
-    next.count = n + 1;
-    next
+    let n = *count;
+    entries[n] = v;
+    *count = n + 1;
 }
 
-// The stack without its oldest status.
-fn popped(s: Statuses) -> Statuses
-    requires { ⌜ Few s ⌝ }
-    ensures { λ r. ⌜ Stacks r (rest (stack s)) ⌝ }
+// The entries behind the oldest move up by one.
+fn take_oldest(entries: &mut [u8; 31], count: &mut usize)
+    requires { ⌜ (length (now entries) ≡ 31) × Few (both (now entries) (now count)) ⌝ }
+    ensures { λ _. ⌜ Stacks (both (now (entries .exit)) (now (count .exit))) (rest (stack (both (now (entries .entry)) (now (count .entry))))) ⌝ }
 {
-    let n = s.count;
-    let mut next = s;
+    let n = *count;
     if n == 0 {
-        return next;
+        return;
     }
     let mut i = 0;
     while i + 1 < n {
-        let x = s.entries[i + 1];
-        next.entries[i] = x;
+        let x = entries[i + 1];
+        entries[i] = x;
         i += 1;
     }
-    next.count = n - 1;
-    next
+    *count = n - 1;
 }

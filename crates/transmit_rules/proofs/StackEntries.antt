@@ -8,7 +8,7 @@ use native.Mathlib.Omega.{arith}
 use borrow.Author.Tests.{lt-ltb}
 use lib.Dec.{ltb}
 use lib.ListN.{length, take, drop, getD, set, length-drop}
-use lib.Seq.{length-take-le, take-nil, take-suc-set, take-suc, getD-drop}
+use lib.Seq.{length-take-le, take-nil, take-suc-set, take-suc, getD-drop, drop-set-lt, drop-drop}
 use Rattle.transmit_rules.specs.Stack.{stack, Few, top, some, added, rest}
 use Rattle.transmit_rules.specs.declared.Statuses.{Statuses}
 
@@ -37,13 +37,17 @@ some-of [] n len = absurd (omega arith)
 some-of (x ∷ xs) zero len = refl
 some-of (x ∷ xs) (suc n) len = sym (lt-ltb 0 (suc n) (omega arith))
 
--- one more entry is shifted down
-pub shift-more : (xs ys : List ℕ) (i : ℕ) → length ys ≡ length xs → i + 1 < length xs → take i ys ≡ take i (drop 1 xs)
-    → take (i + 1) (set ys i (getD xs (i + 1) 0)) ≡ take (i + 1) (drop 1 xs)
-shift-more xs ys i len within was =
+-- one more entry is shifted down, within the entries: those from i on are still as they were
+pub shift-more : (xs ys : List ℕ) (i : ℕ) → length ys ≡ length xs → i + 1 < length xs → take i ys ≡ take i (drop 1 xs) → drop i ys ≡ drop i xs
+    → take (i + 1) (set ys i (getD ys (i + 1) 0)) ≡ take (i + 1) (drop 1 xs)
+shift-more xs ys i len within was kept =
     let a : i < length ys = omega arith in
     let b : i < length (drop 1 xs) = simp length-drop (omega arith) in
-    rw (add-one i, take-suc-set, take-suc (drop 1 xs) i 0, getD-drop 1 xs i 0, add-comm 1 i, add-one i, was)
+    let next : getD ys (i + 1) 0 ≡ getD xs (i + 1) 0 = rw (← getD-drop i ys 1 0, kept, getD-drop i xs 1 0) in
+    rw (next, add-one i, take-suc-set, take-suc (drop 1 xs) i 0, getD-drop 1 xs i 0, add-comm 1 i, add-one i, was)
+
+pub shift-kept : (xs ys : List ℕ) (i v : ℕ) → drop i ys ≡ drop i xs → drop (i + 1) (set ys i v) ≡ drop (i + 1) xs
+shift-kept xs ys i v kept = let past : i < i + 1 = omega arith in rw (drop-set-lt (i + 1) ys i v past, ← drop-drop 1 i ys, ← drop-drop 1 i xs, kept)
 
 rest-take : (xs : List ℕ) (n : ℕ) → take n (drop 1 xs) ≡ rest (take (suc n) xs)
 unfolding rest

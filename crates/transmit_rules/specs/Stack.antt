@@ -6,6 +6,10 @@ use Prim.Native.Nat.{ℕ, _≤_, _<_}
 use lib.ListN.{take}
 use Rattle.transmit_rules.specs.declared.Statuses.{Statuses}
 
+-- entries and their count, which are lent apart, as a stack
+abbrev pub both : List ℕ → ℕ → Statuses
+both entries count = record { entries = entries; count = count }
+
 -- the first `count` entries
 abbrev pub stack : Statuses → List ℕ
 stack s = take (s .count) (s .entries)

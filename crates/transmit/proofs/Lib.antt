@@ -1,0 +1,2 @@
+-- What the walks over the lent status stack cite.
+pub mod InPlace

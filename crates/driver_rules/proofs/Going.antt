@@ -12,7 +12,7 @@ use Rattle.driver_rules.specs.declared.Served.{Served}
 use Rattle.driver_rules.specs.Items.{Serving}
 use Rattle.driver_rules.specs.Meets.{Ended}
 use Rattle.driver_rules.specs.Service.{lookTalk}
-use Rattle.driver_rules.specs.Serves.{GoesOn, Paused, Meets}
+use Rattle.driver_rules.specs.Serves.{discarded, GoesOn, Paused, Meets}
 use Rattle.driver_rules.specs.Serving.{Serves}
 
 is-ended : (b : Bool) (left : ℕ) (R : Ran Serving) (r : Served) (s : Adapter) (l₀ f₀ l f : List ℕ) → b ≡ false → Meets b left R r s l₀ f₀ l f → Ended left R r s l₀ f₀ l f
@@ -38,6 +38,9 @@ module _ (budget : ℕ) (R : Ran Serving) (left : ℕ) (d : Driver) (s : Adapter
     (r : Served) (s′ : Adapter) (l′ f′ : List ℕ) (m : Meets (r .paused) left (run (lookTalk left d) s) r s′ l f l′ f′) where
   pub going-left : r .paused ≡ true → r .left < left
   going-left p = is-paused _ _ _ _ _ _ _ _ _ p m .less
+
+  pub going-discard : r .paused ≡ true → discarded ((run (lookTalk left d) s) .made) ≡ true
+  going-discard p = is-paused _ _ _ _ _ _ _ _ _ p m .discard
 
   pub going-more : r .paused ≡ true → Going budget R (r .left) (r .driver) s′ l₀ f₀ l′ f′
   going-more p =

@@ -1,7 +1,7 @@
 -- Each way through look and receive is the run of its tree. `access` stays shut. Assumes nothing.
 use mathlib.Core.Path.{_≡_, refl, ap, subst⁻¹, _∙_}
 use mathlib.Core.Bool.{Bool, true, false, _||_}
-use mathlib.Core.List.{List, [], _∷_}
+use mathlib.Core.List.{List, [], _∷_, _++_}
 use Prim.Native.Nat.{ℕ, zero, suc, _+_, _-_, _%_, _≤_}
 use native.Mathlib.Numerals.{sub-one}
 use native.Mathlib.Omega.{arith}
@@ -9,7 +9,7 @@ use lib.ListN.{length, length-append}
 use lib.Dec.{ltb}
 use borrow.Author.Tests.{ltb-false}
 use Rattle.bits.specs.Bits.{has}
-use Rattle.bits.proofs.Tests.{neither}
+use Rattle.bits.proofs.Tests.{neither, by-test}
 use Rattle.refusal.specs.declared.Refusal.the-variants.{BudgetShort, CardUnfit}
 use Rattle.card_rules.specs.declared.Card.{Card}
 use Rattle.card_rules.specs.Adapter.{Adapter}
@@ -19,12 +19,12 @@ use Rattle.driver_rules.specs.Registers.{unfit, bad}
 use Rattle.driver_rules.specs.Talk.{Ran, extended, run}
 use Rattle.driver_rules.specs.declared.Served.{Served}
 use Rattle.driver_rules.specs.declared.Answer.{Answer}
-use Rattle.driver_rules.specs.declared.Answer.the-variants.{Idle, Refused}
+use Rattle.driver_rules.specs.declared.Answer.the-variants.{Refused}
 use Rattle.driver_rules.specs.Items.{Serving, plain, reportTalk, idleTalk, fetchTalk}
 use Rattle.driver_rules.specs.Meets.{Ended, Tells}
 use Rattle.driver_rules.proofs.ItemWays.{ran, answered, stops}
 use Rattle.driver_rules.specs.Service.{lookTalk, receiveTalk, dropTalk}
-use Rattle.driver_rules.specs.Serves.{Meets}
+use Rattle.driver_rules.specs.Serves.{isDiscard, discarded, Meets}
 
 -- a part that has come to its end
 ends : (left : ℕ) (R : Ran Serving) (r : Served) (s : Adapter) (l₀ f₀ l f : List ℕ) → Ended left R r s l₀ f₀ l f → Meets (r .paused) left R r s l₀ f₀ l f
@@ -37,6 +37,12 @@ still : (left : ℕ) (R : Ran Serving) (x : Answer) (d : Driver) (m : List Acces
 unfolding Meets
 still left R x d m s c more l f e n = stops left R x d m s c more e n l f
 
+-- a discard is one after any accesses
+later : (m xs : List Access) → discarded xs ≡ true → discarded (m ++ xs) ≡ true
+unfolding discarded
+later [] xs e = e
+later (x ∷ m) xs e = by-test (isDiscard x) (λ y. rw y) (λ n. rw n (later m xs e))
+
 -- accesses made before
 onward : (b : Bool) (left less : ℕ) (m : List Access) (R : Ran Serving) (r : Served) (s : Adapter) (l₀ f₀ l f : List ℕ)
     → length m + less ≡ left → Meets b less R r s l₀ f₀ l f → Meets b left (extended m R) r s l₀ f₀ l f
@@ -47,6 +53,7 @@ onward true left less m R r s l₀ f₀ l f n t =
     record {
       on = record { answer = t .on .answer; adapter = t .on .adapter; count = simp length-append (omega (arith, t .on .count)) };
       less = omega (arith, t .less);
+      discard = later m (R .made) (t .discard);
       look = t .look;
       frame = t .frame;
     }
@@ -74,17 +81,12 @@ module _ (d : Driver) (s s₁ : Adapter) (v : ℕ) where
   looks-idle zero h e w t x = absurd (h refl)
   looks-idle (suc k) h e w t x = rw (sub-one, e, w, t, x)
 
-  idles : (left : ℕ) → (left ≡ 0 → ⊥) → access (WriteWord 14 26729) s ≡ step v s₁ → run (idleTalk left d) s ≡ ran (plain Idle d) (WriteWord 14 26729 ∷ []) s₁
-  unfolding run idleTalk
-  idles zero h e = absurd (h refl)
-  idles (suc k) h e = rw e
-
   receives-bad : (left : ℕ) → (left ≡ 0 → ⊥) → access (ReadWord 8) s ≡ step v s₁ → bad v ≡ true → run (receiveTalk left d) s ≡ extended (ReadWord 8 ∷ []) (run (dropTalk (left - 1) d) s₁)
   unfolding run lookTalk
   receives-bad zero h e w = absurd (h refl)
   receives-bad (suc k) h e w = rw (sub-one, e, w)
 
-  receives-good : (left : ℕ) → (left ≡ 0 → ⊥) → access (ReadWord 8) s ≡ step v s₁ → bad v ≡ false → run (receiveTalk left d) s ≡ extended (ReadWord 8 ∷ []) (run (fetchTalk (left - 1) d (v % 2048)) s₁)
+  pub receives-good : (left : ℕ) → (left ≡ 0 → ⊥) → access (ReadWord 8) s ≡ step v s₁ → bad v ≡ false → run (receiveTalk left d) s ≡ extended (ReadWord 8 ∷ []) (run (fetchTalk (left - 1) d (v % 2048)) s₁)
   unfolding run lookTalk
   receives-good zero h e w = absurd (h refl)
   receives-good (suc k) h e w = rw (sub-one, e, w)
@@ -117,17 +119,10 @@ module _ (left : ℕ) (d : Driver) (s : Adapter) (l f : List ℕ) where
             rw (looks-receive d s s₁ v left some e₁ w t x)
             (onward (r .paused) left (left - 1) (ReadWord 14 ∷ []) _ r s′ l f l′ f′ (omega arith) m)
 
-        module _ (x : has 16 v ≡ false) where
-          pub look-one : (c : Card) → left ≡ 1 → Meets false left (run (lookTalk left d) s) (answered d c (Refused BudgetShort) 0 false) s₁ l f l f
-          unfolding run idleTalk
-          look-one c e =
-              let z : left - 1 ≡ 0 = omega arith in
-              still left _ (Refused BudgetShort) d (ReadWord 14 ∷ []) s₁ c 0 l f (looks-idle d s s₁ v left some e₁ w t x ∙ rw z) (omega arith)
-
-          pub look-idle : (left ≡ 1 → ⊥) → (c : Card) (s₂ : Adapter) (x₂ : ℕ) → access (WriteWord 14 26729) s₁ ≡ step x₂ s₂ → Meets false left (run (lookTalk left d) s) (answered d c Idle (left - 2) false) s₂ l f l f
-          look-idle h c s₂ x₂ e₂ =
-              still left _ Idle d (ReadWord 14 ∷ (WriteWord 14 26729 ∷ [])) s₂ c (left - 2) l f
-              (looks-idle d s s₁ v left some e₁ w t x ∙ ap (extended (ReadWord 14 ∷ [])) (idles d s₁ s₂ x₂ (left - 1) (λ z. omega arith) e₂)) (omega arith)
+        pub look-idle : (r : Served) (s′ : Adapter) → has 16 v ≡ false → Tells (left - 1) (run (idleTalk (left - 1) d) s₁) r s′ → Meets (r .paused) left (run (lookTalk left d) s) r s′ l f l f
+        look-idle r s′ x m =
+            rw (looks-idle d s s₁ v left some e₁ w t x)
+            (onward (r .paused) left (left - 1) (ReadWord 14 ∷ []) _ r s′ l f l f (omega arith) (ends _ _ r s′ l f l f (m l f)))
 
 -- ---- receive
 
@@ -145,16 +140,16 @@ module _ (left : ℕ) (d : Driver) (s : Adapter) (l f : List ℕ) where
           still left _ (Refused BudgetShort) d (ReadWord 8 ∷ []) s₁ c 0 l f (receives-bad d s s₁ v left some e₁ w ∙ rw z) (omega arith)
 
       module _ (more : left ≡ 1 → ⊥) (s₂ : Adapter) (x₂ : ℕ) (e₂ : access (WriteWord 14 16384) s₁ ≡ step x₂ s₂) where
-        dropped : run (receiveTalk left d) s ≡ extended (ReadWord 8 ∷ (WriteWord 14 16384 ∷ [])) (run (lookTalk (left - 2) d) s₂)
+        pub dropped : run (receiveTalk left d) s ≡ extended (ReadWord 8 ∷ (WriteWord 14 16384 ∷ [])) (run (lookTalk (left - 2) d) s₂)
         dropped =
             let z : left - 1 - 1 ≡ left - 2 = omega arith in
             receives-bad d s s₁ v left some e₁ w ∙ ap (extended (ReadWord 8 ∷ [])) (drops d s₁ s₂ x₂ (left - 1) (λ z. omega arith) e₂ ∙ rw z)
 
         pub receive-pause : (c : Card) (a : Answer) → Meets true left (run (receiveTalk left d) s) (answered d c a (left - 2) true) s₂ l f l f
-        unfolding Meets
+        unfolding Meets discarded
         receive-pause c a =
             rw dropped
-            (record { on = record { answer = refl; adapter = refl; count = omega arith }; less = omega arith; look = refl; frame = refl })
+            (record { on = record { answer = refl; adapter = refl; count = omega arith }; less = omega arith; discard = refl; look = refl; frame = refl })
 
         pub receive-again : (r : Served) (s′ : Adapter) (l′ f′ : List ℕ) → Meets (r .paused) (left - 2) (run (lookTalk (left - 2) d) s₂) r s′ l f l′ f′ → Meets (r .paused) left (run (receiveTalk left d) s) r s′ l f l′ f′
         receive-again r s′ l′ f′ m =

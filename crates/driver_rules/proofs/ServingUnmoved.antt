@@ -1,32 +1,32 @@
--- A service that is done: refused 5 with one access, it never paused, so card and memory are as they came. Assumes nothing.
-use mathlib.Core.Path.{_≡_, ap, sym, _∙_}
+-- A service that is done: with no discard made it never paused, so its one look is the whole of it. Assumes nothing.
+use mathlib.Core.Path.{_≡_, refl, ap, sym, _∙_}
+use mathlib.Core.Bool.{true, false}
 use mathlib.Core.List.{List}
-use Prim.Native.Nat.{ℕ, _≤_}
-use native.Mathlib.Omega.{arith}
-use lib.ListN.{length}
-use Rattle.refusal.specs.declared.Refusal.the-variants.{CardUnfit}
+use Prim.Native.Nat.{ℕ}
+use Rattle.bits.proofs.Tests.{never}
 use Rattle.card_rules.specs.declared.Card.{Card}
-use Rattle.card_rules.specs.Adapter.{Adapter}
-use Rattle.driver_rules.specs.declared.Driver.{Driver}
-use Rattle.driver_rules.specs.Talk.{Ran, run}
-use Rattle.driver_rules.specs.declared.Answer.the-variants.{Refused}
+use Rattle.driver_rules.specs.Talk.{Ran}
 use Rattle.driver_rules.specs.Items.{Serving}
-use Rattle.driver_rules.specs.Service.{lookTalk}
-use Rattle.driver_rules.specs.Serves.{Unmoved}
-use Rattle.driver_rules.proofs.Unmoved.{look-some}
-use Rattle.driver_rules.proofs.Going.{Going}
+use Rattle.driver_rules.specs.Serves.{discarded, stopped, Unmoved}
 
-module _ (budget : ℕ) (R : Ran Serving) (left : ℕ) (d : Driver) (s : Adapter) (l₀ f₀ l f : List ℕ) (G : Going budget R left d s l₀ f₀ l f) (within : left ≤ budget)
-    (c₀ c r : Card) (ram₀ dir₀ ram dir ram′ dir′ : List ℕ) (first : left ≡ budget → (c ≡ c₀) × ((ram ≡ ram₀) × (dir ≡ dir₀))) where
-  pub unmoved-done : Unmoved (run (lookTalk left d) s) c r ram dir ram′ dir′ → Unmoved R c₀ r ram₀ dir₀ ram′ dir′
-  unmoved-done u =
+-- Q is what is left of the run R at c: all of it, if R makes no discard
+pub record First (R Q : Ran Serving) (c₀ c : Card) (ram₀ dir₀ ram dir : List ℕ) : Type 0 where
+  pub whole : discarded (R .made) ≡ false → (R ≡ Q) × ((c ≡ c₀) × ((ram ≡ ram₀) × (dir ≡ dir₀)))
+
+pub first : (R : Ran Serving) (c : Card) (ram dir : List ℕ) → First R R c c ram dir ram dir
+first R c ram dir = record { whole = λ _. (refl, (refl, (refl, refl))) }
+
+module _ (R Q : Ran Serving) (c₀ c : Card) (ram₀ dir₀ ram dir : List ℕ) (F : First R Q c₀ c ram₀ dir₀ ram dir) where
+  pub unmoved-done : (r : Card) (ram′ dir′ : List ℕ) → Unmoved Q c r ram dir ram′ dir′ → Unmoved R c₀ r ram₀ dir₀ ram′ dir′
+  unmoved-done r ram′ dir′ u =
       record {
         same = λ x n.
-            let y : (run (lookTalk left d) s) .answer .answer ≡ Refused CardUnfit = sym (ap (λ z. z .answer) (G .on .answer)) ∙ x in
-            let k = look-some left d s y in
-            let e : left ≡ budget = omega (arith, G .on .count, k, n) in
-            let m : length ((run (lookTalk left d) s) .made) ≡ 1 = omega (arith, G .on .count, n) in
-            let p = u .same y m in
-            let q = first e in
-            (p .0 ∙ q .0, (p .1 .0 ∙ q .1 .0, p .1 .1 ∙ q .1 .1));
+            let f = F .whole n in
+            let p = u .same (ap (λ (T : Ran Serving). stopped (T .answer .answer)) (sym (f .0)) ∙ x) (ap (λ (T : Ran Serving). discarded (T .made)) (sym (f .0)) ∙ n) in
+            (p .0 ∙ f .1 .0, (p .1 .0 ∙ f .1 .1 .0, p .1 .1 ∙ f .1 .1 .1));
       }
+
+  -- paused, the run has made a discard
+  pub unmoved-more : discarded (Q .made) ≡ true → (Q′ : Ran Serving) (c′ : Card) (ram′ dir′ : List ℕ) → First R Q′ c₀ c′ ram₀ dir₀ ram′ dir′
+  unmoved-more y Q′ c′ ram′ dir′ =
+      record { whole = λ n. never (sym n ∙ (ap (λ (T : Ran Serving). discarded (T .made)) (F .whole n .0) ∙ y)) }

@@ -1,90 +1,56 @@
--- Refusal 5 at the first access changes nothing: Status is read from a sound card, which stays as it was, and every other way answers otherwise or makes more accesses.
+-- Refused with no discard made, a part of a service changes nothing: Status and RX Status are read from a sound card, which stays as it was, and an item that lacks its accesses isn't begun.
 -- Assumes nothing.
-use mathlib.Core.Path.{_≡_, refl, sym, _∙_}
-use mathlib.Core.Bool.{true, false}
-use mathlib.Core.List.{List}
-use Prim.Native.Nat.{ℕ, zero, suc, _-_, _≤_}
-use native.Mathlib.Omega.{arith}
-use lib.ListN.{length}
-use lib.Dec.{ltb}
-use Rattle.bits.specs.Bits.{has}
-use Rattle.bits.proofs.Tests.{by-test}
-use Rattle.refusal.specs.declared.Refusal.the-variants.{BudgetShort, CardUnfit}
+use mathlib.Core.Path.{_≡_, refl, sym, ap, _∙_}
+use mathlib.Core.Bool.{false, _&&_}
+use mathlib.Core.List.{List, [], _∷_}
+use Prim.Native.Nat.{ℕ}
+use lib.Dec.{ltb, eqb}
+use Rattle.bits.proofs.Tests.{by-test, never, of-cond}
 use Rattle.card_rules.specs.declared.Card.{Card}
 use Rattle.card_rules.specs.Adapter.{Adapter}
 use Rattle.card_rules.specs.View.{view, Sound}
 use Rattle.card_rules.specs.Read.{wordAt}
-use Rattle.card_rules.specs.Access.{ReadWord, step, access}
+use Rattle.card_rules.specs.Access.{ReadWord, WriteWord, step, access}
 use Rattle.card_rules.specs.Gives.{Gives}
 use Rattle.card_rules.proofs.StepEnds.{gives-word, stands-ones}
 use Rattle.driver_rules.specs.declared.Driver.{Driver}
-use Rattle.driver_rules.specs.Registers.{unfit}
-use Rattle.driver_rules.specs.Talk.{Ran, run}
-use Rattle.driver_rules.specs.declared.Answer.the-variants.{Idle, Refused}
-use Rattle.driver_rules.specs.Items.{Serving, reportTalk, idleTalk}
-use Rattle.driver_rules.specs.Service.{lookTalk, receiveTalk}
-use Rattle.driver_rules.specs.Serves.{Unmoved}
-use Rattle.driver_rules.proofs.ServiceWays.{looks-report, looks-receive, looks-idle}
+use Rattle.driver_rules.specs.declared.Served.{Served}
+use Rattle.driver_rules.specs.Talk.{Ran, extended}
+use Rattle.driver_rules.specs.Items.{Serving, reports}
+use Rattle.driver_rules.specs.Meets.{Ended}
+use Rattle.driver_rules.specs.Serves.{discarded, stopped, Unmoved}
 
--- reading Status leaves a sound card as it was
-reads-still : (c : Card) (ram dir : List ℕ) → Sound c ram dir → (access (ReadWord 14) (view c ram dir)) .adapter ≡ view c ram dir
-reads-still c ram dir s =
+-- reading a word that isn't the data port's leaves a sound card as it was
+reads-still : (o : ℕ) (c : Card) (ram dir : List ℕ) → (ltb o 4 && eqb (c .select .window) 1) ≡ false → Sound c ram dir → (access (ReadWord o) (view c ram dir)) .adapter ≡ view c ram dir
+reads-still o c ram dir n s =
     by-test (c .id .active)
-    (λ e. sym (gives-word c ram dir s 14 (wordAt 14 (view c ram dir)) e refl refl .stands .shows))
-    (λ e. sym (stands-ones c ram dir s (ReadWord 14) e .shows))
+    (λ e. sym (gives-word c ram dir s o (wordAt o (view c ram dir)) e n refl .stands .shows))
+    (λ e. sym (stands-ones c ram dir s (ReadWord o) e .shows))
 
-pub as-came : (c : Card) (ram dir : List ℕ) {r : Card} {v : ℕ} → Sound c ram dir → Gives r v ram dir (access (ReadWord 14) (view c ram dir)) → access (ReadWord 14) (view c ram dir) ≡ step v (view c ram dir)
-as-came c ram dir s g = λ i. record { value = sym (g .value) i; adapter = reads-still c ram dir s i }
+pub as-came : (o : ℕ) (c : Card) (ram dir : List ℕ) {r : Card} {v : ℕ} → (ltb o 4 && eqb (c .select .window) 1) ≡ false → Sound c ram dir
+    → Gives r v ram dir (access (ReadWord o) (view c ram dir)) → access (ReadWord o) (view c ram dir) ≡ step v (view c ram dir)
+as-came o c ram dir n s g = λ i. record { value = sym (g .value) i; adapter = reads-still o c ram dir n s i }
 
--- ---- the other answers
+-- a report is no refusal
+pub report-goes : (status : ℕ) (d : Driver) → stopped ((reports status d) .answer) ≡ false
+unfolding reports
+report-goes status d = of-cond (λ (x : Serving). stopped (x .answer) ≡ false) (ltb 0 (d .unreported)) refl refl
 
-other : {P : Type 0} → Refused BudgetShort ≡ Refused CardUnfit → P
-other e = absurd (let z : _≡_ {A = ℕ} 0 1 = cc in omega arith)
+-- what was handed in is handed back
+pub stays : (R : Ran Serving) (c : Card) (ram dir : List ℕ) → Unmoved R c c ram dir ram dir
+stays R c ram dir = record { same = λ _ _. (refl, (refl, refl)) }
 
-idle-other : {P : Type 0} → Idle ≡ Refused CardUnfit → P
-idle-other e = absurd (let z : _≡_ {A = ℕ} 0 1 = cc in omega arith)
+module _ (c r : Card) (ram dir ram′ dir′ : List ℕ) where
+  -- an item that is begun is no refusal
+  pub begun : {left : ℕ} {R : Ran Serving} {x : Served} {s : Adapter} {l₀ f₀ l f : List ℕ} → Ended left R x s l₀ f₀ l f → stopped (x .answer) ≡ false → Unmoved R c r ram dir ram′ dir′
+  begun t e = record { same = λ y _. never (sym (sym (ap stopped (t .answer)) ∙ e) ∙ y) }
 
--- a part that makes no access is short
-report-none : (left : ℕ) (d : Driver) (s : Adapter) → length ((run (reportTalk left d) s) .made) ≡ 0 → (run (reportTalk left d) s) .answer .answer ≡ Refused BudgetShort
-unfolding run reportTalk
-report-none left d s = by-test (ltb left 4) (λ e. rw e (λ _. refl)) (λ e. rw e (λ n. absurd (omega arith)))
+  -- a word was read before
+  pub after-read : (R Q : Ran Serving) (o : ℕ) → R ≡ extended (ReadWord o ∷ []) Q → Unmoved Q c r ram dir ram′ dir′ → Unmoved R c r ram dir ram′ dir′
+  unfolding discarded
+  after-read R Q o e u = rw e (record { same = u .same })
 
-receive-none : (left : ℕ) (d : Driver) (s : Adapter) → length ((run (receiveTalk left d) s) .made) ≡ 0 → (run (receiveTalk left d) s) .answer .answer ≡ Refused BudgetShort
-unfolding run lookTalk
-receive-none zero d s n = refl
-receive-none (suc left) d s n = absurd (omega arith)
-
-idle-fit : {P : Type 0} (left : ℕ) (d : Driver) (s : Adapter) → (run (idleTalk left d) s) .answer .answer ≡ Refused CardUnfit → P
-unfolding run idleTalk
-idle-fit zero d s e = other e
-idle-fit (suc left) d s e = idle-other e
-
-pub look-some : (left : ℕ) (d : Driver) (s : Adapter) → (run (lookTalk left d) s) .answer .answer ≡ Refused CardUnfit → 1 ≤ length ((run (lookTalk left d) s) .made)
-unfolding run lookTalk
-look-some zero d s e = other e
-look-some (suc left) d s e = omega arith
-
--- ---- each way through look
-
-module _ (left : ℕ) (d : Driver) (s : Adapter) (c r : Card) (ram dir ram′ dir′ : List ℕ) where
-  pub look-none : left ≡ 0 → Unmoved (run (lookTalk left d) s) c r ram dir ram′ dir′
-  unfolding run lookTalk
-  look-none e = rw e (record { same = λ x _. other x })
-
-  module _ (some : left ≡ 0 → ⊥) (s₁ : Adapter) (v : ℕ) (e₁ : access (ReadWord 14) s ≡ step v s₁) (w : unfit v ≡ false) where
-    pub look-report : has 4 v ≡ true → Unmoved (run (lookTalk left d) s) c r ram dir ram′ dir′
-    look-report t =
-        rw (looks-report d s s₁ v left some e₁ w t)
-        (record { same = λ x n. other (sym (report-none (left - 1) d s₁ (omega (arith, n))) ∙ x) })
-
-    module _ (t : has 4 v ≡ false) where
-      pub look-receive : has 16 v ≡ true → Unmoved (run (lookTalk left d) s) c r ram dir ram′ dir′
-      look-receive x =
-          rw (looks-receive d s s₁ v left some e₁ w t x)
-          (record { same = λ y n. other (sym (receive-none (left - 1) d s₁ (omega (arith, n))) ∙ y) })
-
-      pub look-idle : has 16 v ≡ false → Unmoved (run (lookTalk left d) s) c r ram dir ram′ dir′
-      look-idle x = rw (looks-idle d s s₁ v left some e₁ w t x) (record { same = λ y _. idle-fit (left - 1) d s₁ y })
-
-pub look-unfit : (R : Ran Serving) (c : Card) (ram dir : List ℕ) → Unmoved R c c ram dir ram dir
-look-unfit R c ram dir = record { same = λ _ _. (refl, (refl, refl)) }
+  -- a bad frame was discarded
+  pub after-discard : (R Q : Ran Serving) → R ≡ extended (ReadWord 8 ∷ (WriteWord 14 16384 ∷ [])) Q → Unmoved R c r ram dir ram′ dir′
+  unfolding discarded
+  after-discard R Q e = rw e (record { same = λ _ n. never (sym n) })

@@ -1,15 +1,16 @@
 -- Each public call is the tree of its inner call under its refusals. Assumes nothing.
 use mathlib.Core.Path.{_≡_, refl, sym, ap, subst⁻¹, _∙_}
 use mathlib.Core.Bool.{Bool, true, false, cond, not, _&&_}
-use mathlib.Core.List.{List}
+use mathlib.Core.List.{List, [], _∷_}
 use Prim.Native.Nat.{ℕ, _<_, _≤_}
 use lib.ListN.{length}
 use borrow.Author.Tests.{le-leb, lt-leb}
 use Rattle.refusal.specs.declared.Refusal.{Refusal}
-use Rattle.refusal.specs.declared.Refusal.the-variants.{StateUnsound, NeverOpened, AreaShort}
+use Rattle.refusal.specs.declared.Refusal.the-variants.{StateUnsound, CardUnfit, NeverOpened, AreaShort}
 use Rattle.bits.proofs.Tests.{never, both, join}
 use Rattle.card_rules.specs.declared.Card.{Card}
 use Rattle.card_rules.specs.View.{view, Sound, soundCard}
+use Rattle.card_rules.specs.Access.{ReadWord}
 use Rattle.card_rules.proofs.Checked.{card-told}
 use Rattle.driver_rules.specs.declared.Driver.{Driver}
 use Rattle.driver_rules.specs.Talk.{Talk, Ran, run}
@@ -19,7 +20,7 @@ use Rattle.driver_rules.specs.Items.{Serving, plain}
 use Rattle.driver_rules.specs.Areas.{inLook, inFrame}
 use Rattle.driver_rules.specs.declared.Serviced.{Serviced}
 use Rattle.driver_rules.specs.Service.{lookTalk}
-use Rattle.driver_rules.specs.Serves.{Unmoved}
+use Rattle.driver_rules.specs.Serves.{discarded, stopped, Unmoved}
 use Rattle.driver_rules.specs.Serving.{Serves}
 use Rattle.driver_rules.specs.declared.Opened.{Opened}
 use Rattle.driver_rules.specs.declared.OpenAnswer.the-variants as opening
@@ -35,6 +36,14 @@ use Rattle.driver_rules.specs.Calls.{soundState, large, openCall, sendCa
 -- a refusal that is passed
 pub passed : {A : Type 0} (b : Bool) (x y : A) → b ≡ true → cond (not b) x y ≡ y
 passed b x y e = ap (λ (v : Bool). cond (not v) x y) e
+
+-- a service that is begun is a look
+pub begun-look : (s l : Bool) (d : Driver) (budget : ℕ) → (s && (d .opened && l)) ≡ true → serviceCall s l d budget ≡ lookTalk budget d
+unfolding serviceCall
+begun-look s l d budget b =
+    let p = both s (d .opened && l) b in
+    let q = both (d .opened) l (p .1) in
+    passed s _ _ (p .0) ∙ (passed (d .opened) _ _ (q .0) ∙ passed l _ _ (q .1))
 
 module _ (c : Card) (ram dir : List ℕ) (d : Driver) where
   -- what the test of soundness tells
@@ -84,10 +93,20 @@ module _ (c : Card) (ram dir : List ℕ) (d : Driver) where
           used = sym n;
           taken = λ t. never (sym b ∙ t);
           kept = λ _. (refl, (refl, refl));
-          unfit = λ t. never (sym b ∙ t);
+          unmoved = λ t. never (sym b ∙ t);
           lookahead = rw e;
           frames = rw e;
         }
+
+    -- refused 5, a service has read Status alone, and changes nothing
+    pub five-keeps : (r : Serviced) (ram′ dir′ look′ frame′ : List ℕ) → Services c ram dir d budget look frame r ram′ dir′ look′ frame′
+        → begun ≡ true → R .answer .answer ≡ serving.Refused CardUnfit → (r .card ≡ c) × ((ram′ ≡ ram) × (dir′ ≡ dir))
+    unfolding discarded
+    five-keeps r ram′ dir′ look′ frame′ k b e =
+        let m : R .made ≡ ReadWord 14 ∷ [] =
+        subst⁻¹ (λ (t : Talk Serving). (run t (view c ram dir)) .answer .answer ≡ serving.Refused CardUnfit → (run t (view c ram dir)) .made ≡ ReadWord 14 ∷ [])
+        (begun-look (soundState c ram dir d) (large look frame) d budget b) (unfit-at-once budget d (view c ram dir)) e in
+        k .unmoved b .same (ap stopped e) (ap discarded m)
 
     pub service-unsound : soundState c ram dir d ≡ false → Services c ram dir d budget look frame (record { card = c; driver = d; answer = serving.Refused StateUnsound; used = 0 }) ram dir look frame
     unfolding serviceCall run
@@ -104,10 +123,6 @@ module _ (c : Card) (ram dir : List ℕ) (d : Driver) where
         service-tight l = refused AreaShort (rw (s, o, l)) (rw (s, o, l)) (rw (s, o, l))
 
         module _ (l : large look frame ≡ true) where
-          call-run : serviceCall (soundState c ram dir d) (large look frame) d budget ≡ lookTalk budget d
-          unfolding serviceCall
-          call-run = passed (soundState c ram dir d) _ _ s ∙ (passed (d .opened) _ _ o ∙ passed (large look frame) _ _ l)
-
           is-begun : begun ≡ true
           is-begun = join (soundState c ram dir d) (d .opened && large look frame) s (join (d .opened) (large look frame) o l)
 
@@ -116,14 +131,14 @@ module _ (c : Card) (ram dir : List ℕ) (d : Driver) where
               → Unmoved (run (lookTalk budget d) (view c ram dir)) c (r .card) ram dir ram′ dir′
               → Services c ram dir d budget look frame r ram′ dir′ look′ frame′
           service-run r ram′ dir′ look′ frame′ m q u =
-              subst⁻¹ (λ (t : Talk Serving). ServiceCall begun (run t (view c ram dir)) c ram dir look frame r ram′ dir′ look′ frame′) call-run
+              subst⁻¹ (λ (t : Talk Serving). ServiceCall begun (run t (view c ram dir)) c ram dir look frame r ram′ dir′ look′ frame′) (begun-look (soundState c ram dir d) (large look frame) d budget is-begun)
               (record {
                 answer = m .answer;
                 driver = m .driver;
                 used = m .used;
                 taken = λ _. record { shows = m .adapter; sound = q };
                 kept = λ n. never (sym n ∙ is-begun);
-                unfit = λ _ e. u .same e (unfit-at-once budget d (view c ram dir) e);
+                unmoved = λ _. u;
                 lookahead = m .look;
                 frames = m .frame;
               })

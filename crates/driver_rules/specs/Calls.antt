@@ -5,7 +5,7 @@ use mathlib.Core.List.{List}
 use Prim.Native.Nat.{ℕ}
 use lib.ListN.{length}
 use lib.Dec.{leb}
-use Rattle.refusal.specs.declared.Refusal.the-variants.{StateUnsound, CardUnfit, NeverOpened, AreaShort}
+use Rattle.refusal.specs.declared.Refusal.the-variants.{StateUnsound, NeverOpened, AreaShort}
 use Rattle.card_rules.specs.declared.Card.{Card}
 use Rattle.card_rules.specs.View.{view, Stands, soundCard}
 use Rattle.driver_rules.specs.declared.Driver.{Driver}
@@ -16,6 +16,7 @@ use Rattle.driver_rules.specs.Items.{Serving, plain}
 use Rattle.driver_rules.specs.Areas.{inLook, inFrame}
 use Rattle.driver_rules.specs.declared.Serviced.{Serviced}
 use Rattle.driver_rules.specs.Service.{lookTalk}
+use Rattle.driver_rules.specs.Serves.{Unmoved}
 use Rattle.driver_rules.specs.declared.Opened.{Opened}
 use Rattle.driver_rules.specs.declared.OpenAnswer.the-variants as opening
 use Rattle.driver_rules.specs.Open.{Opening, openTalk}
@@ -57,14 +58,14 @@ abbrev pub Sends : Card → List ℕ → List ℕ → Driver → List ℕ → Se
 Sends c ram dir d packet r ram′ dir′ =
     inner-send.Sends (run (sendCall (soundState c ram dir d) d packet) (view c ram dir)) c ram dir r ram′ dir′
 
--- Answer, driver, count, areas and card are those of the run R; refused before its first access, or 5 by it, a call changes nothing.
+-- Answer, driver, count, areas and card are those of the run R; refused before its first access, or later with no discard made, a call changes nothing.
 pub record ServiceCall (begun : Bool) (R : Ran Serving) (c : Card) (ram dir look frame : List ℕ) (r : Serviced) (ram′ dir′ look′ frame′ : List ℕ) : Type 0 where
   pub answer : r .answer ≡ R .answer .answer
   pub driver : r .driver ≡ R .answer .driver
   pub used : r .used ≡ length (R .made)
   pub taken : begun ≡ true → Stands (r .card) ram′ dir′ (R .adapter)
   pub kept : begun ≡ false → (r .card ≡ c) × ((ram′ ≡ ram) × (dir′ ≡ dir))
-  pub unfit : begun ≡ true → R .answer .answer ≡ serving.Refused CardUnfit → (r .card ≡ c) × ((ram′ ≡ ram) × (dir′ ≡ dir))
+  pub unmoved : begun ≡ true → Unmoved R c (r .card) ram dir ram′ dir′
   pub lookahead : look′ ≡ inLook (R .answer .bytes) look
   pub frames : frame′ ≡ inFrame (R .answer .bytes) frame
 

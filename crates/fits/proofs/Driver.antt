@@ -4,7 +4,7 @@ use mathlib.Core.Bool.{Bool, true, false, _&&_}
 use mathlib.Core.List.{List}
 use Prim.Native.Nat.{ℕ}
 use Rattle.refusal.specs.declared.Refusal.the-variants.{CardUnfit}
-use Rattle.bits.proofs.Tests.{by-test, both, never}
+use Rattle.bits.proofs.Tests.{by-test, never}
 use Rattle.card_rules.specs.declared.Card.{Card}
 use Rattle.card_rules.specs.Adapter.{Adapter}
 use Rattle.card_rules.specs.View.{view, Stands}
@@ -14,7 +14,6 @@ use Rattle.driver_rules.specs.declared.Answer.{Answer}
 use Rattle.driver_rules.specs.declared.Answer.the-variants as serving
 use Rattle.driver_rules.specs.Items.{Serving}
 use Rattle.driver_rules.specs.declared.Serviced.{Serviced}
-use Rattle.driver_rules.specs.Service.{lookTalk}
 use Rattle.driver_rules.specs.declared.OpenAnswer.{OpenAnswer}
 use Rattle.driver_rules.specs.declared.OpenAnswer.the-variants as opening
 use Rattle.driver_rules.specs.Open as opens
@@ -25,7 +24,7 @@ use Rattle.driver_rules.specs.Send as sends
 use Rattle.driver_rules.specs.declared.Sent.{Sent}
 use Rattle.driver_rules.specs.Paper.{openPaper, sendPaper, servicePaper}
 use Rattle.driver_rules.specs.Calls.{soundState, large, serviceCall, Opens, Sends, Services}
-use Rattle.driver_rules.proofs.Ways.{passed}
+use Rattle.driver_rules.proofs.Ways.{begun-look, five-keeps}
 use Rattle.fits.specs.Agree.{With, WithAreas, End, shown, SameEnd, isRefused, SameLeft}
 use Rattle.fits.specs.Fits.{opened, sent, served, DriverCalls}
 use Rattle.fits.proofs.Service.{Ways, of-look}
@@ -70,13 +69,6 @@ five-only =
       frame = λ n d bytes e used y. never y;
     }
 
-begun-look : (s o l : Bool) (d : Driver) (budget : ℕ) → d .opened ≡ o → (s && (o && l)) ≡ true → serviceCall s l d budget ≡ lookTalk budget d
-unfolding serviceCall
-begun-look s o l d budget e b =
-    let p = both s (o && l) b in
-    let q = both o l (p .1) in
-    passed s _ _ (p .0) ∙ (passed (d .opened) _ _ (e ∙ q .0) ∙ passed l _ _ (q .1))
-
 -- ---- the calls
 
 module _ (c : Card) (ram dir : List ℕ) (d : Driver) where
@@ -115,7 +107,10 @@ module _ (c : Card) (ram dir : List ℕ) (d : Driver) where
     unfit-only : begun ≡ true → Fivefold (R .answer)
     unfit-only y =
         subst⁻¹ (λ (t : Talk Serving). Fivefold ((run t (view c ram dir)) .answer))
-        (begun-look (soundState c ram dir d) (d .opened) (large look frame) d budget refl y) (of-look Fivefold five-only budget d (view c ram dir))
+        (begun-look (soundState c ram dir d) (large look frame) d budget y) (of-look Fivefold five-only budget d (view c ram dir))
+
+    keeps : (r : WithAreas Serviced) → Serves r → begun ≡ true → R .answer .answer ≡ serving.Refused CardUnfit → Keeps c ram dir (served r .end)
+    keeps r = five-keeps c ram dir d budget look frame (r .result) (r .ram) (r .dir) (r .look) (r .frame)
 
     same-served : (r r′ : WithAreas Serviced) → Serves r → Serves r′ → SameLeft (served r) (served r′)
     same-served r r′ k k′ =
@@ -130,7 +125,7 @@ module _ (c : Card) (ram dir : List ℕ) (d : Driver) where
                 shows = k .taken y .shows ∙ sym (k′ .taken y .shows);
                 whole = λ n.
                     let five : R .answer .answer ≡ serving.Refused CardUnfit = unfit-only y (r .result .used) (ap (λ (z : Answer). isRefused (servicePaper z (r .result .used))) (sym (k .answer)) ∙ n) in
-                    kept-same c ram dir (view c ram dir) (served r .end) (served r′ .end) (k .unfit y five) (k′ .unfit y five);
+                    kept-same c ram dir (view c ram dir) (served r .end) (served r′ .end) (keeps r k y five) (keeps r′ k′ y five);
               })
               (λ n.
               let same : served r .end ≡ served r′ .end = kept-same c ram dir (view c ram dir) (served r .end) (served r′ .end) (k .kept n) (k′ .kept n) in

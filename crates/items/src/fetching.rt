@@ -7,6 +7,7 @@ ghost use Rattle.driver_rules.specs.Registers.{commandPort, rxDiscard};
 ghost use Rattle.driver_rules.specs.Talk.{run};
 ghost use Rattle.driver_rules.specs.Items.{fetchTalk};
 ghost use Rattle.driver_rules.specs.Meets.{Ready, Ended, Read};
+ghost use Rattle.driver_rules.specs.Serves.{Unmoved};
 use crate::sizes;
 use crate::telling;
 use card_rules::Card;
@@ -56,7 +57,7 @@ pub fn fetch(
     n: usize,
 ) -> Served
     requires { ⌜ Ready c (now ram) (now dir) (now look) (now frame) × (n ≤ 1514) ⌝ }
-    ensures { λ r. ⌜ Ended left (run (fetchTalk left d n) (view c (now (ram .entry)) (now (dir .entry)))) r (view (r .card) (now (ram .exit)) (now (dir .exit))) (now (look .entry)) (now (frame .entry)) (now (look .exit)) (now (frame .exit)) × Sound (r .card) (now (ram .exit)) (now (dir .exit)) ⌝ }
+    ensures { λ r. ⌜ Ended left (run (fetchTalk left d n) (view c (now (ram .entry)) (now (dir .entry)))) r (view (r .card) (now (ram .exit)) (now (dir .exit))) (now (look .entry)) (now (frame .entry)) (now (look .exit)) (now (frame .exit)) × (Sound (r .card) (now (ram .exit)) (now (dir .exit)) × Unmoved (run (fetchTalk left d n) (view c (now (ram .entry)) (now (dir .entry)))) c (r .card) (now (ram .entry)) (now (dir .entry)) (now (ram .exit)) (now (dir .exit))) ⌝ }
 {
     let cost = (n + 1) / 2 + 1;
     if left < cost {

@@ -3,6 +3,7 @@ ghost use Rattle.card_rules.specs.View.{view, Sound};
 ghost use Rattle.driver_rules.specs.Talk.{run};
 ghost use Rattle.driver_rules.specs.Items.{idleTalk};
 ghost use Rattle.driver_rules.specs.Meets.{Tells};
+ghost use Rattle.driver_rules.specs.Serves.{Unmoved};
 use crate::telling;
 use card_rules::Card;
 use driver_rules::Answer;
@@ -15,7 +16,7 @@ const ACKNOWLEDGED: u16 = 0x69;
 // Neither TX Complete nor RX Complete: acknowledge and answer idle, with 1 left.
 pub fn idle(ram: &mut [u8], dir: &mut [u16], c: Card, d: Driver, left: usize) -> Served
     requires { ⌜ Sound c (now ram) (now dir) ⌝ }
-    ensures { λ r. ⌜ Tells left (run (idleTalk left d) (view c (now (ram .entry)) (now (dir .entry)))) r (view (r .card) (now (ram .exit)) (now (dir .exit))) × Sound (r .card) (now (ram .exit)) (now (dir .exit)) ⌝ }
+    ensures { λ r. ⌜ Tells left (run (idleTalk left d) (view c (now (ram .entry)) (now (dir .entry)))) r (view (r .card) (now (ram .exit)) (now (dir .exit))) × (Sound (r .card) (now (ram .exit)) (now (dir .exit)) × Unmoved (run (idleTalk left d) (view c (now (ram .entry)) (now (dir .entry)))) c (r .card) (now (ram .entry)) (now (dir .entry)) (now (ram .exit)) (now (dir .exit))) ⌝ }
 {
     if left == 0 {
         return telling::short(c, d, left);

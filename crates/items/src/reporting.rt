@@ -3,6 +3,7 @@ ghost use Rattle.card_rules.specs.View.{view, Sound};
 ghost use Rattle.driver_rules.specs.Talk.{run};
 ghost use Rattle.driver_rules.specs.Items.{reportTalk};
 ghost use Rattle.driver_rules.specs.Meets.{Tells};
+ghost use Rattle.driver_rules.specs.Serves.{Unmoved};
 use crate::telling;
 use card_rules::Card;
 use driver_rules::Driver;
@@ -11,7 +12,7 @@ use driver_rules::Served;
 // The report of the oldest status, with 4 left. TX Enable only where no status is left: an error must not be passed over.
 pub fn report(ram: &mut [u8], dir: &mut [u16], c: Card, d: Driver, left: usize) -> Served
     requires { ⌜ Sound c (now ram) (now dir) ⌝ }
-    ensures { λ r. ⌜ Tells left (run (reportTalk left d) (view c (now (ram .entry)) (now (dir .entry)))) r (view (r .card) (now (ram .exit)) (now (dir .exit))) × Sound (r .card) (now (ram .exit)) (now (dir .exit)) ⌝ }
+    ensures { λ r. ⌜ Tells left (run (reportTalk left d) (view c (now (ram .entry)) (now (dir .entry)))) r (view (r .card) (now (ram .exit)) (now (dir .exit))) × (Sound (r .card) (now (ram .exit)) (now (dir .exit)) × Unmoved (run (reportTalk left d) (view c (now (ram .entry)) (now (dir .entry)))) c (r .card) (now (ram .entry)) (now (dir .entry)) (now (ram .exit)) (now (dir .exit))) ⌝ }
 {
     if left < 4 {
         return telling::short(c, d, left);

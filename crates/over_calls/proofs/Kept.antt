@@ -20,20 +20,16 @@ use Rattle.driver_rules.specs.Items.{Serving, plain, short, isError, seen, repo
 use Rattle.driver_rules.specs.Areas.{inLook, inFrame}
 use Rattle.driver_rules.specs.Service.{lookTalk, receiveTalk, dropTalk}
 use Rattle.driver_rules.specs.declared.Serviced.{Serviced}
+use Rattle.driver_rules.specs.Serves.{discarded, stopped}
 use Rattle.driver_rules.specs.Paper.{servicePaper}
 use Rattle.driver_rules.specs.Calls.{soundState, large, serviceCall, Services}
+use Rattle.driver_rules.proofs.Ways.{five-keeps}
 use Rattle.fits.specs.Agree.{isRefused}
-use Rattle.over_calls.specs.Kept.{Left, AsItCame, A-refused-service-changes-nothing, A-service-short-of-budget-leaves-driver-and-areas}
+use Rattle.over_calls.specs.Kept.{Left, AsItCame, made, A-refused-service-changes-nothing, A-service-short-of-budget-leaves-driver-and-areas, A-service-short-of-a-budget-below-3-changes-nothing}
+use Rattle.over_calls.proofs.Few.{few}
 
--- any refusal, 6 among them
-abbrev isNo : Answer → Bool
-isNo (serving.Reported t s) = false
-isNo (serving.Status s) = false
-isNo (serving.Frame n) = false
-isNo serving.Idle = false
-isNo (serving.Refused why) = true
-
-no-of : (x : Answer) (used : ℕ) → isRefused (servicePaper x used) ≡ true → isNo x ≡ true
+-- a refusal that changes nothing stops a service
+no-of : (x : Answer) (used : ℕ) → isRefused (servicePaper x used) ≡ true → stopped x ≡ true
 no-of (serving.Reported t s) used e = never e
 no-of (serving.Status s) used e = never e
 no-of (serving.Frame n) used e = never e
@@ -47,7 +43,7 @@ pub record Kept (d : Driver) (x : Serving) : Type 0 where
   five : (used : ℕ) → isRefused (servicePaper (x .answer) used) ≡ true → x .answer ≡ serving.Refused CardUnfit
 
 abbrev P : Driver → Serving → Type 0
-P d x = isNo (x .answer) ≡ true → Kept d x
+P d x = stopped (x .answer) ≡ true → Kept d x
 
 -- short of budget
 of-short : (d : Driver) → P d (short d)
@@ -118,7 +114,7 @@ record Still (d : Driver) (x : Serving) : Type 0 where
   bytes : x .bytes ≡ []
 
 abbrev Q : Bool → Driver → Serving → Type 0
-Q begun d x = isNo (x .answer) ≡ true → Still d x × ((used : ℕ) → isRefused (servicePaper (x .answer) used) ≡ true → begun ≡ true → x .answer ≡ serving.Refused CardUnfit)
+Q begun d x = stopped (x .answer) ≡ true → Still d x × ((used : ℕ) → isRefused (servicePaper (x .answer) used) ≡ true → begun ≡ true → x .answer ≡ serving.Refused CardUnfit)
 
 whole : (s o l : Bool) (d : Driver) (budget : ℕ) (a : Adapter) → d .opened ≡ o → Q (s && (o && l)) d ((run (serviceCall s l d budget) a) .answer)
 unfolding serviceCall run
@@ -138,10 +134,10 @@ module _ (c : Card) (ram dir : List ℕ) (d : Driver) (budget : ℕ) (look frame
   abbrev b : Bool
   b = soundState c ram dir d && (d .opened && large look frame)
 
-  ran : isNo (r .answer) ≡ true → Still d ((run (serviceCall (soundState c ram dir d) (large look frame) d budget) (view c ram dir)) .answer) × ((used : ℕ) → isRefused (servicePaper ((run (serviceCall (soundState c ram dir d) (large look frame) d budget) (view c ram dir)) .answer .answer) used) ≡ true → b ≡ true → (run (serviceCall (soundState c ram dir d) (large look frame) d budget) (view c ram dir)) .answer .answer ≡ serving.Refused CardUnfit)
-  ran y = whole (soundState c ram dir d) (d .opened) (large look frame) d budget (view c ram dir) refl (ap isNo (sym (k .answer)) ∙ y)
+  ran : stopped (r .answer) ≡ true → Still d ((run (serviceCall (soundState c ram dir d) (large look frame) d budget) (view c ram dir)) .answer) × ((used : ℕ) → isRefused (servicePaper ((run (serviceCall (soundState c ram dir d) (large look frame) d budget) (view c ram dir)) .answer .answer) used) ≡ true → b ≡ true → (run (serviceCall (soundState c ram dir d) (large look frame) d budget) (view c ram dir)) .answer .answer ≡ serving.Refused CardUnfit)
+  ran y = whole (soundState c ram dir d) (d .opened) (large look frame) d budget (view c ram dir) refl (ap stopped (sym (k .answer)) ∙ y)
 
-  left : isNo (r .answer) ≡ true → Left d look frame r look′ frame′
+  left : stopped (r .answer) ≡ true → Left d look frame r look′ frame′
   unfolding inLook inFrame
   left y =
       let w = ran y .0 in
@@ -155,14 +151,21 @@ module _ (c : Card) (ram dir : List ℕ) (d : Driver) (budget : ℕ) (look frame
   as-it-came y =
       let n = no-of (r .answer) (r .used) y in
       let kept : (r .card ≡ c) × ((ram′ ≡ ram) × (dir′ ≡ dir)) =
-      by-test b (λ t. k .unfit t (ran n .1 (r .used) (ap (λ (z : Answer). isRefused (servicePaper z (r .used))) (sym (k .answer)) ∙ y) t)) (k .kept) in
+      by-test b (λ t. five-keeps c ram dir d budget look frame r ram′ dir′ look′ frame′ k t (ran n .1 (r .used) (ap (λ (z : Answer). isRefused (servicePaper z (r .used))) (sym (k .answer)) ∙ y) t)) (k .kept) in
       record { card = kept .0; memory = kept .1 .0; directory = kept .1 .1; left = left n }
 
-  pub short-leaves : r .answer ≡ serving.Refused BudgetShort → Left d look frame r look′ frame′
-  short-leaves e = left (ap isNo e)
+  pub nothing-made : r .answer ≡ serving.Refused BudgetShort → discarded (made c ram dir d budget look frame) ≡ false → AsItCame c ram dir d look frame r ram′ dir′ look′ frame′
+  nothing-made e n =
+      let kept : (r .card ≡ c) × ((ram′ ≡ ram) × (dir′ ≡ dir)) = by-test b (λ t. k .unmoved t .same (ap stopped (sym (k .answer) ∙ e)) n) (k .kept) in
+      record { card = kept .0; memory = kept .1 .0; directory = kept .1 .1; left = left (ap stopped e) }
 
 pub changes-nothing : A-refused-service-changes-nothing
 changes-nothing c ram dir d budget look frame r ram′ dir′ look′ frame′ k y = as-it-came c ram dir d budget look frame r ram′ dir′ look′ frame′ k y
 
 pub leaves-driver-and-areas : A-service-short-of-budget-leaves-driver-and-areas
-leaves-driver-and-areas c ram dir d budget look frame r ram′ dir′ look′ frame′ k e = short-leaves c ram dir d budget look frame r ram′ dir′ look′ frame′ k e
+leaves-driver-and-areas c ram dir d budget look frame r ram′ dir′ look′ frame′ k e =
+    (left c ram dir d budget look frame r ram′ dir′ look′ frame′ k (ap stopped e), nothing-made c ram dir d budget look frame r ram′ dir′ look′ frame′ k e)
+
+pub below-three : A-service-short-of-a-budget-below-3-changes-nothing
+below-three c ram dir d budget look frame r ram′ dir′ look′ frame′ k e h =
+    nothing-made c ram dir d budget look frame r ram′ dir′ look′ frame′ k e (few (soundState c ram dir d) (large look frame) d budget h (view c ram dir))

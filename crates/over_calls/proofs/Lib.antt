@@ -3,6 +3,7 @@ pub mod Over
 pub mod Unread
 pub mod Cut
 pub mod Reached
+pub mod Few
 pub mod Kept
 pub mod Refused
 pub mod Sends

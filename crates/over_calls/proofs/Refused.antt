@@ -159,4 +159,13 @@ lent-keeps before x =
     }
 
 pub a-refused-call-changes-nothing : A-refused-call-changes-nothing
-a-refused-call-changes-nothing = record { card = card-keeps; driver = driver-keeps; service = service.changes-nothing; short = service.leaves-driver-and-areas; id-port = port-keeps; lent-port = lent-keeps }
+a-refused-call-changes-nothing =
+    record {
+      card = card-keeps;
+      driver = driver-keeps;
+      service = service.changes-nothing;
+      short = service.leaves-driver-and-areas;
+      below-three = service.below-three;
+      id-port = port-keeps;
+      lent-port = lent-keeps;
+    }

@@ -27,7 +27,7 @@ use Rattle.driver_rules.specs.declared.Sent.{Sent}
 use Rattle.driver_rules.specs.Paper.{openPaper, sendPaper}
 use Rattle.driver_rules.specs.Calls.{Opens, Sends}
 use Rattle.fits.specs.Agree.{isRefusal, isRefused}
-use Rattle.over_calls.specs.Kept.{A-refused-service-changes-nothing, A-service-short-of-budget-leaves-driver-and-areas}
+use Rattle.over_calls.specs.Kept.{A-refused-service-changes-nothing, A-service-short-of-budget-leaves-driver-and-areas, A-service-short-of-a-budget-below-3-changes-nothing}
 
 -- The card with its memory, as they came.
 pub record Same (c r : Card) (ram dir ram′ dir′ : List ℕ) : Type 0 where
@@ -83,5 +83,6 @@ pub record A-refused-call-changes-nothing : Type 0 where
   pub driver : (c : Card) (ram dir : List ℕ) (d : Driver) → Driver-keeps c ram dir d
   pub service : A-refused-service-changes-nothing
   pub short : A-service-short-of-budget-leaves-driver-and-areas
+  pub below-three : A-service-short-of-a-budget-below-3-changes-nothing
   pub id-port : (b : Bus) (x : ℕ) → Port-keeps b x
   pub lent-port : (before : List IdState) (x : ℕ) → Lent-keeps before x

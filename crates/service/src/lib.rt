@@ -1,5 +1,4 @@
 // Look, receive, and look again, until an item is found, the budget is short, or so many turns were taken.
-ghost use mathlib.Core.Path.{_≡_};
 ghost use Rattle.card_rules.specs.View.{view, Sound};
 ghost use Rattle.driver_rules.specs.Talk.{run};
 ghost use Rattle.driver_rules.specs.Meets.{Ready};
@@ -16,6 +15,7 @@ pub mod serving; // serving.rt: a whole service: look and receive, begun again w
 pub use serving::serve;
 
 // Status is read, and the first item that stands is done: TX Complete, else RX Complete, else idle.
+// The read leaves the card as it came, so c itself is handed on: refused, the call hands back the very card.
 pub fn look(
     ram: &mut [u8],
     dir: &mut [u16],
@@ -33,21 +33,21 @@ pub fn look(
         return items::short(c, d, 0);
     }
     let got = steps::read_word(ram, dir, c, driver_rules::STATUS);
-    let same = got.card;
     let status = got.value;
     if items::is_unfit(status) {
         return items::ended(c, d, Answer::Refused(Refusal::CardUnfit), left - 1);
     }
     if items::is_tx_complete(status) {
-        return items::report(ram, dir, same, d, left - 1);
+        return items::report(ram, dir, c, d, left - 1);
     }
     if items::is_rx_complete(status) {
-        return receive(ram, dir, same, d, ahead, frame, left - 1, turns);
+        return receive(ram, dir, c, d, ahead, frame, left - 1, turns);
     }
-    items::idle(ram, dir, same, d, left - 1)
+    items::idle(ram, dir, c, d, left - 1)
 }
 
 // The oldest frame is complete: a good one is fetched, any other discarded, and the pass looks again from the start.
+// Reading RX Status leaves the card as it came, too.
 fn receive(
     ram: &mut [u8],
     dir: &mut [u16],
@@ -59,19 +59,18 @@ fn receive(
     turns: usize,
 ) -> Served
     requires { ⌜ Ready c (now ram) (now dir) (now ahead) (now frame) ⌝ }
-    ensures { λ r. ⌜ Meets (r .paused) left (run (receiveTalk left d) (view c (now (ram .entry)) (now (dir .entry)))) r (view (r .card) (now (ram .exit)) (now (dir .exit))) (now (ahead .entry)) (now (frame .entry)) (now (ahead .exit)) (now (frame .exit)) × Sound (r .card) (now (ram .exit)) (now (dir .exit)) ⌝ }
+    ensures { λ r. ⌜ Meets (r .paused) left (run (receiveTalk left d) (view c (now (ram .entry)) (now (dir .entry)))) r (view (r .card) (now (ram .exit)) (now (dir .exit))) (now (ahead .entry)) (now (frame .entry)) (now (ahead .exit)) (now (frame .exit)) × (Sound (r .card) (now (ram .exit)) (now (dir .exit)) × Unmoved (run (receiveTalk left d) (view c (now (ram .entry)) (now (dir .entry)))) c (r .card) (now (ram .entry)) (now (dir .entry)) (now (ram .exit)) (now (dir .exit))) ⌝ }
 {
     if left == 0 {
         return items::short(c, d, 0);
     }
     let got = steps::read_word(ram, dir, c, driver_rules::RX_STATUS);
-    let same = got.card;
     let rx = got.value;
     if items::is_bad(rx) {
         if left == 1 {
-            return items::short(same, d, 0);
+            return items::short(c, d, 0);
         }
-        let dropped = items::discard(ram, dir, same);
+        let dropped = items::discard(ram, dir, c);
         if turns == 0 {
             return Served {
                 driver: d,
@@ -84,5 +83,5 @@ fn receive(
         return look(ram, dir, dropped, d, ahead, frame, left - 2, turns - 1);
     }
     let n = (rx % items::sizes::RAW_COUNT) as usize;
-    items::fetch(ram, dir, same, d, ahead, frame, left - 1, n)
+    items::fetch(ram, dir, c, d, ahead, frame, left - 1, n)
 }

@@ -1,21 +1,9 @@
--- `service::look` and `service::receive`: each way through `look` and `receive` is a law of Ways; the accesses left fall at each call. Assumes nothing.
-use mathlib.Core.Path.{_≡_, refl, sym, subst⁻¹, _∙_}
-use mathlib.Core.Bool.{Bool, false}
-use mathlib.Core.List.{List, [], _∷_}
-use Prim.Native.Nat.{ℕ, suc, _+_, _-_, _<_}
+-- `service::look` and `service::receive`: each way through `look` and `receive` is a law of Ways, and one of Unmoved; the accesses left fall at each call. Assumes nothing.
+use mathlib.Core.Path.{refl, sym, _∙_}
+use mathlib.Core.List.{[]}
+use Prim.Native.Nat.{ℕ, _<_}
 use native.Mathlib.Omega.{arith}
-use lib.ListN.{length}
-use Rattle.card_rules.specs.Adapter.{Adapter}
-use Rattle.card_rules.specs.Access.{ReadWord, step, access}
-use Rattle.driver_rules.specs.declared.Driver.{Driver}
-use Rattle.driver_rules.specs.declared.Served.{Served}
-use Rattle.driver_rules.specs.Registers.{unfit, txComplete, rxComplete}
-use Rattle.driver_rules.specs.Talk.{extended, run}
-use Rattle.driver_rules.specs.Items.{idleTalk}
-use Rattle.driver_rules.specs.Meets.{Ended, Tells}
-use Rattle.driver_rules.specs.Service.{lookTalk}
-use Rattle.driver_rules.specs.Serves.{Meets}
-use Rattle.driver_rules.proofs.Runs.{gave, wrote, ram-kept, dir-kept}
+use Rattle.driver_rules.proofs.Runs.{wrote, ram-kept, dir-kept}
 use Rattle.driver_rules.proofs.ServiceWays as ways
 use Rattle.driver_rules.proofs.Unmoved as unmoved
 use borrow.Author.Needs.{needs}
@@ -40,21 +28,6 @@ use Rattle.items.proofs.tests.is_tx_complete.Reads as is-tx-reads
 use Rattle.items.proofs.tests.is_rx_complete.Reads as is-rx-reads
 use Rattle.service.proofs.+look+receive.{statement}
 use Rattle.service.proofs.+look+receive.Tie.{close}
-
--- an access more was made
-one-more : (n k left : ℕ) → (left ≡ 0 → ⊥) → n + k ≡ left - 1 → suc n + k ≡ left
-one-more n k left some e = omega arith
-
--- neither TX Complete nor RX Complete: the look ends as idle does, an access later
-idle-after : (left : ℕ) (d : Driver) (s : Adapter) (l f : List ℕ) → (left ≡ 0 → ⊥) → (s₁ : Adapter) (v : ℕ) → access (ReadWord 14) s ≡ step v s₁
-    → unfit v ≡ false → txComplete v ≡ false → rxComplete v ≡ false → (r : Served) (s′ : Adapter) → Tells (left - 1) (run (idleTalk (left - 1) d) s₁) r s′
-    → Meets (r .paused) left (run (lookTalk left d) s) r s′ l f l f
-unfolding Meets
-idle-after left d s l f some s₁ v e₁ w t x r s′ m =
-    let q : Ended (left - 1) (run (idleTalk (left - 1) d) s₁) r s′ l f l f = m l f in
-    rw (ways.looks-idle d s s₁ v left some e₁ w t x)
-    (subst⁻¹ (λ (b : Bool). Meets b left (extended (ReadWord 14 ∷ []) (run (idleTalk (left - 1) d) s₁)) r s′ l f l f) (q .ended)
-    (record { answer = q .answer; driver = q .driver; count = one-more _ _ left some (q .count); adapter = q .adapter; look = q .look; frame = q .frame; ended = q .ended }))
 
 abbrev μ-look : Measures 4 look-kinds.ps ℕ
 μ-look κs a = a .1 .1 .1 .1 .1 .1 .0
@@ -85,7 +58,7 @@ look-short-requires : (t : ℕ) → look-lts.Need-short-requires (look-calls t) 
 look-short-requires t c κs = search needs
 
 look-returns : (t : ℕ) → look-lts.Need-returns (look-calls t) (look-at t) look.Post
-look-returns t c = rw (c .short .ensures) (ways.look-none (c .before .before .before .before .before .before .args .left) _ _ _ _ _ (c .before .if1 .taken), (c .before .before .before .before .before .before .pre .1 .sound, unmoved.look-none (c .before .before .before .before .before .before .args .left) _ _ _ _ _ _ _ _ (c .before .if1 .taken)))
+look-returns t c = rw (c .short .ensures) (ways.look-none (c .before .before .before .before .before .before .args .left) _ _ _ _ _ (c .before .if1 .taken), (c .before .before .before .before .before .before .pre .1 .sound, unmoved.stays _ _ _ _))
 
 look-read-word-requires : (t : ℕ) → look-lts.Need-read-word-requires (look-calls t) (look-at t) look.Post
 look-read-word-requires t c κs = (c .before .before .before .before .before .before .before .pre .1 .sound, refl)
@@ -94,52 +67,52 @@ look-is-unfit-requires : (t : ℕ) → look-lts.Need-is-unfit-requires (look-cal
 look-is-unfit-requires t c κs = search needs
 
 look-sub-ended : (t : ℕ) → look-lts.Need-sub-ended (look-calls t) (look-at t) look.Post
-look-sub-ended t c = omega (arith, c .before .before .before .before .before .before .if1 .left)
+look-sub-ended t c = omega (arith, c .before .before .before .before .before .if1 .left)
 
 look-ended-requires : (t : ℕ) → look-lts.Need-ended-requires (look-calls t) (look-at t) look.Post
 look-ended-requires t c κs = search needs
 
 look-same-length : (t : ℕ) → look-lts.Need-same-length (look-calls t) (look-at t) look.Post
-look-same-length t c = ram-kept (c .before .before .before .before .read-word .ensures .stands .sound) (c .before .before .before .before .before .before .before .before .before .before .before .before .pre .1 .sound)
+look-same-length t c = ram-kept (c .before .before .before .read-word .ensures .stands .sound) (c .before .before .before .before .before .before .before .before .before .before .before .pre .1 .sound)
 
 look-same-length-2 : (t : ℕ) → look-lts.Need-same-length-2 (look-calls t) (look-at t) look.Post
-look-same-length-2 t c = dir-kept (c .before .before .before .before .read-word .ensures .stands .sound) (c .before .before .before .before .before .before .before .before .before .before .before .before .pre .1 .sound)
+look-same-length-2 t c = dir-kept (c .before .before .before .read-word .ensures .stands .sound) (c .before .before .before .before .before .before .before .before .before .before .before .pre .1 .sound)
 
 look-returns-2 : (t : ℕ) → look-lts.Need-returns-2 (look-calls t) (look-at t) look.Post
-look-returns-2 t c = rw (c .ended .ensures) (ways.look-unfit (c .before .before .before .before .before .before .before .before .before .before .before .before .args .left) _ _ _ _ (c .before .before .before .before .before .before .before .if1 .left) _ _ (unmoved.as-came _ _ _ (c .before .before .before .before .before .before .before .before .before .before .before .before .pre .1 .sound) (c .before .before .before .before .read-word .ensures)) _ (sym (c .before .before .is-unfit .ensures) ∙ c .before .if2 .taken), (c .before .before .before .before .before .before .before .before .before .before .before .before .pre .1 .sound, unmoved.look-unfit _ _ _ _))
+look-returns-2 t c = rw (c .ended .ensures) (ways.look-unfit (c .before .before .before .before .before .before .before .before .before .before .before .args .left) _ _ _ _ (c .before .before .before .before .before .before .if1 .left) _ _ (unmoved.as-came 14 _ _ _ refl (c .before .before .before .before .before .before .before .before .before .before .before .pre .1 .sound) (c .before .before .before .read-word .ensures)) _ (sym (c .before .before .is-unfit .ensures) ∙ c .before .if2 .taken), (c .before .before .before .before .before .before .before .before .before .before .before .pre .1 .sound, unmoved.stays _ _ _ _))
 
 look-is-tx-complete-requires : (t : ℕ) → look-lts.Need-is-tx-complete-requires (look-calls t) (look-at t) look.Post
 look-is-tx-complete-requires t c κs = search needs
 
 look-sub-report : (t : ℕ) → look-lts.Need-sub-report (look-calls t) (look-at t) look.Post
-look-sub-report t c = omega (arith, c .before .before .before .before .before .before .before .before .before .before .if1 .left)
+look-sub-report t c = omega (arith, c .before .before .before .before .before .before .before .before .before .if1 .left)
 
 look-report-requires : (t : ℕ) → look-lts.Need-report-requires (look-calls t) (look-at t) look.Post
-look-report-requires t c κs = c .before .before .before .before .before .before .before .read-word .ensures .stands .sound
+look-report-requires t c κs = c .before .before .before .before .before .before .before .before .before .before .before .before .before .before .pre .1 .sound
 
 look-same-length-3 : (t : ℕ) → look-lts.Need-same-length-3 (look-calls t) (look-at t) look.Post
-look-same-length-3 t c = ram-kept (c .before .before .before .before .report .ensures .1) (c .before .before .before .before .before .before .before .before .before .before .before .before .before .before .before .before .before .before .before .before .pre .1 .sound)
+look-same-length-3 t c = ram-kept (c .before .before .before .before .report .ensures .1 .0) (c .before .before .before .before .before .before .before .before .before .before .before .before .before .before .before .before .before .before .before .pre .1 .sound)
 
 look-same-length-4 : (t : ℕ) → look-lts.Need-same-length-4 (look-calls t) (look-at t) look.Post
-look-same-length-4 t c = dir-kept (c .before .before .before .before .report .ensures .1) (c .before .before .before .before .before .before .before .before .before .before .before .before .before .before .before .before .before .before .before .before .pre .1 .sound)
+look-same-length-4 t c = dir-kept (c .before .before .before .before .report .ensures .1 .0) (c .before .before .before .before .before .before .before .before .before .before .before .before .before .before .before .before .before .before .before .pre .1 .sound)
 
 look-returns-3 : (t : ℕ) → look-lts.Need-returns-3 (look-calls t) (look-at t) look.Post
-look-returns-3 t c = (ways.look-report (c .before .before .before .before .before .before .before .before .before .before .before .before .before .before .before .before .before .before .before .before .args .left) _ _ _ _ (c .before .before .before .before .before .before .before .before .before .before .before .before .before .before .before .if1 .left) _ _ (gave (c .before .before .before .before .before .before .before .before .before .before .before .before .read-word .ensures)) (sym (c .before .before .before .before .before .before .before .before .before .before .is-unfit .ensures) ∙ c .before .before .before .before .before .before .before .before .before .if2 .left) _ _ (sym (c .before .before .before .before .before .before .before .before .is-tx-complete .ensures) ∙ c .before .before .before .before .before .before .before .if3 .taken) (c .before .before .before .before .report .ensures .0), (c .before .before .before .before .report .ensures .1, unmoved.look-report (c .before .before .before .before .before .before .before .before .before .before .before .before .before .before .before .before .before .before .before .before .args .left) _ _ _ _ _ _ _ _ (c .before .before .before .before .before .before .before .before .before .before .before .before .before .before .before .if1 .left) _ _ (gave (c .before .before .before .before .before .before .before .before .before .before .before .before .read-word .ensures)) (sym (c .before .before .before .before .before .before .before .before .before .before .is-unfit .ensures) ∙ c .before .before .before .before .before .before .before .before .before .if2 .left) (sym (c .before .before .before .before .before .before .before .before .is-tx-complete .ensures) ∙ c .before .before .before .before .before .before .before .if3 .taken)))
+look-returns-3 t c = let e = unmoved.as-came 14 _ _ _ refl (c .before .before .before .before .before .before .before .before .before .before .before .before .before .before .before .before .before .before .before .pre .1 .sound) (c .before .before .before .before .before .before .before .before .before .before .before .read-word .ensures) in let w = sym (c .before .before .before .before .before .before .before .before .before .before .is-unfit .ensures) ∙ c .before .before .before .before .before .before .before .before .before .if2 .left in let h = sym (c .before .before .before .before .before .before .before .before .is-tx-complete .ensures) ∙ c .before .before .before .before .before .before .before .if3 .taken in (ways.look-report (c .before .before .before .before .before .before .before .before .before .before .before .before .before .before .before .before .before .before .before .args .left) _ _ _ _ (c .before .before .before .before .before .before .before .before .before .before .before .before .before .before .if1 .left) _ _ e w _ _ h (c .before .before .before .before .report .ensures .0), (c .before .before .before .before .report .ensures .1 .0, unmoved.after-read _ _ _ _ _ _ _ _ 14 (ways.looks-report _ _ _ _ (c .before .before .before .before .before .before .before .before .before .before .before .before .before .before .before .before .before .before .before .args .left) (c .before .before .before .before .before .before .before .before .before .before .before .before .before .before .if1 .left) e w h) (c .before .before .before .before .report .ensures .1 .1)))
 
 look-is-rx-complete-requires : (t : ℕ) → look-lts.Need-is-rx-complete-requires (look-calls t) (look-at t) look.Post
 look-is-rx-complete-requires t c κs = search needs
 
 look-sub-receive : (t : ℕ) → look-lts.Need-sub-receive (look-calls t) (look-at t) look.Post
-look-sub-receive t c = omega (arith, c .before .before .before .before .before .before .before .before .before .before .before .before .before .before .if1 .left)
+look-sub-receive t c = omega (arith, c .before .before .before .before .before .before .before .before .before .before .before .before .before .if1 .left)
 
 look-receive-requires : (t : ℕ) → look-lts.Need-receive-requires (look-calls t) (look-at t) look.Post
-look-receive-requires t c κs = (omega (arith, c .before .before .before .before .before .before .before .before .before .before .before .before .before .before .before .before .before .before .before .pre .0, c .before .before .before .before .before .before .before .before .before .before .before .before .before .before .if1 .left), record { sound = c .before .before .before .before .before .before .before .before .before .before .before .read-word .ensures .stands .sound; look = c .before .before .before .before .before .before .before .before .before .before .before .before .before .before .before .before .before .before .before .pre .1 .look; frame = c .before .before .before .before .before .before .before .before .before .before .before .before .before .before .before .before .before .before .before .pre .1 .frame })
+look-receive-requires t c κs = (omega (arith, c .before .before .before .before .before .before .before .before .before .before .before .before .before .before .before .before .before .before .pre .0, c .before .before .before .before .before .before .before .before .before .before .before .before .before .if1 .left), record { sound = c .before .before .before .before .before .before .before .before .before .before .before .before .before .before .before .before .before .before .pre .1 .sound; look = c .before .before .before .before .before .before .before .before .before .before .before .before .before .before .before .before .before .before .pre .1 .look; frame = c .before .before .before .before .before .before .before .before .before .before .before .before .before .before .before .before .before .before .pre .1 .frame })
 
 look-same-length-5 : (t : ℕ) → look-lts.Need-same-length-5 (look-calls t) (look-at t) look.Post
-look-same-length-5 t c = ram-kept (c .before .before .before .before .before .before .before .before .receive .ensures .1) (c .before .before .before .before .before .before .before .before .before .before .before .before .before .before .before .before .before .before .before .before .before .before .before .before .before .before .before .before .pre .1 .sound)
+look-same-length-5 t c = ram-kept (c .before .before .before .before .before .before .before .before .receive .ensures .1 .0) (c .before .before .before .before .before .before .before .before .before .before .before .before .before .before .before .before .before .before .before .before .before .before .before .before .before .before .before .pre .1 .sound)
 
 look-same-length-6 : (t : ℕ) → look-lts.Need-same-length-6 (look-calls t) (look-at t) look.Post
-look-same-length-6 t c = dir-kept (c .before .before .before .before .before .before .before .before .receive .ensures .1) (c .before .before .before .before .before .before .before .before .before .before .before .before .before .before .before .before .before .before .before .before .before .before .before .before .before .before .before .before .pre .1 .sound)
+look-same-length-6 t c = dir-kept (c .before .before .before .before .before .before .before .before .receive .ensures .1 .0) (c .before .before .before .before .before .before .before .before .before .before .before .before .before .before .before .before .before .before .before .before .before .before .before .before .before .before .before .pre .1 .sound)
 
 look-same-length-7 : (t : ℕ) → look-lts.Need-same-length-7 (look-calls t) (look-at t) look.Post
 look-same-length-7 t c = search needs
@@ -148,28 +121,28 @@ look-same-length-8 : (t : ℕ) → look-lts.Need-same-length-8 (look-calls t) (l
 look-same-length-8 t c = search needs
 
 look-returns-4 : (t : ℕ) → look-lts.Need-returns-4 (look-calls t) (look-at t) look.Post
-look-returns-4 t c = (ways.look-receive (c .before .before .before .before .before .before .before .before .before .before .before .before .before .before .before .before .before .before .before .before .before .before .before .before .before .before .before .before .args .left) _ _ _ _ (c .before .before .before .before .before .before .before .before .before .before .before .before .before .before .before .before .before .before .before .before .before .before .before .if1 .left) _ _ (gave (c .before .before .before .before .before .before .before .before .before .before .before .before .before .before .before .before .before .before .before .before .read-word .ensures)) (sym (c .before .before .before .before .before .before .before .before .before .before .before .before .before .before .before .before .before .before .is-unfit .ensures) ∙ c .before .before .before .before .before .before .before .before .before .before .before .before .before .before .before .before .before .if2 .left) (sym (c .before .before .before .before .before .before .before .before .before .before .before .before .before .before .before .before .is-tx-complete .ensures) ∙ c .before .before .before .before .before .before .before .before .before .before .before .before .before .before .before .if3 .left) _ _ _ _ (sym (c .before .before .before .before .before .before .before .before .before .before .before .before .before .before .is-rx-complete .ensures) ∙ c .before .before .before .before .before .before .before .before .before .before .before .before .before .if4 .taken) (c .before .before .before .before .before .before .before .before .receive .ensures .0), (c .before .before .before .before .before .before .before .before .receive .ensures .1, unmoved.look-receive (c .before .before .before .before .before .before .before .before .before .before .before .before .before .before .before .before .before .before .before .before .before .before .before .before .before .before .before .before .args .left) _ _ _ _ _ _ _ _ (c .before .before .before .before .before .before .before .before .before .before .before .before .before .before .before .before .before .before .before .before .before .before .before .if1 .left) _ _ (gave (c .before .before .before .before .before .before .before .before .before .before .before .before .before .before .before .before .before .before .before .before .read-word .ensures)) (sym (c .before .before .before .before .before .before .before .before .before .before .before .before .before .before .before .before .before .before .is-unfit .ensures) ∙ c .before .before .before .before .before .before .before .before .before .before .before .before .before .before .before .before .before .if2 .left) (sym (c .before .before .before .before .before .before .before .before .before .before .before .before .before .before .before .before .is-tx-complete .ensures) ∙ c .before .before .before .before .before .before .before .before .before .before .before .before .before .before .before .if3 .left) (sym (c .before .before .before .before .before .before .before .before .before .before .before .before .before .before .is-rx-complete .ensures) ∙ c .before .before .before .before .before .before .before .before .before .before .before .before .before .if4 .taken)))
+look-returns-4 t c = let e = unmoved.as-came 14 _ _ _ refl (c .before .before .before .before .before .before .before .before .before .before .before .before .before .before .before .before .before .before .before .before .before .before .before .before .before .before .before .pre .1 .sound) (c .before .before .before .before .before .before .before .before .before .before .before .before .before .before .before .before .before .before .before .read-word .ensures) in let w = sym (c .before .before .before .before .before .before .before .before .before .before .before .before .before .before .before .before .before .before .is-unfit .ensures) ∙ c .before .before .before .before .before .before .before .before .before .before .before .before .before .before .before .before .before .if2 .left in let h = sym (c .before .before .before .before .before .before .before .before .before .before .before .before .before .before .before .before .is-tx-complete .ensures) ∙ c .before .before .before .before .before .before .before .before .before .before .before .before .before .before .before .if3 .left in let x = sym (c .before .before .before .before .before .before .before .before .before .before .before .before .before .before .is-rx-complete .ensures) ∙ c .before .before .before .before .before .before .before .before .before .before .before .before .before .if4 .taken in (ways.look-receive (c .before .before .before .before .before .before .before .before .before .before .before .before .before .before .before .before .before .before .before .before .before .before .before .before .before .before .before .args .left) _ _ _ _ (c .before .before .before .before .before .before .before .before .before .before .before .before .before .before .before .before .before .before .before .before .before .before .if1 .left) _ _ e w h _ _ _ _ x (c .before .before .before .before .before .before .before .before .receive .ensures .0), (c .before .before .before .before .before .before .before .before .receive .ensures .1 .0, unmoved.after-read _ _ _ _ _ _ _ _ 14 (ways.looks-receive _ _ _ _ (c .before .before .before .before .before .before .before .before .before .before .before .before .before .before .before .before .before .before .before .before .before .before .before .before .before .before .before .args .left) (c .before .before .before .before .before .before .before .before .before .before .before .before .before .before .before .before .before .before .before .before .before .before .if1 .left) e w h x) (c .before .before .before .before .before .before .before .before .receive .ensures .1 .1)))
 
 look-sub-idle : (t : ℕ) → look-lts.Need-sub-idle (look-calls t) (look-at t) look.Post
-look-sub-idle t c = omega (arith, c .before .before .before .before .before .before .before .before .before .before .before .before .if1 .left)
+look-sub-idle t c = omega (arith, c .before .before .before .before .before .before .before .before .before .before .before .if1 .left)
 
 look-idle-requires : (t : ℕ) → look-lts.Need-idle-requires (look-calls t) (look-at t) look.Post
-look-idle-requires t c κs = c .before .before .before .before .before .before .before .before .before .read-word .ensures .stands .sound
+look-idle-requires t c κs = c .before .before .before .before .before .before .before .before .before .before .before .before .before .before .before .before .pre .1 .sound
 
 look-same-length-9 : (t : ℕ) → look-lts.Need-same-length-9 (look-calls t) (look-at t) look.Post
-look-same-length-9 t c = ram-kept (c .before .before .before .before .idle .ensures .1) (c .before .before .before .before .before .before .before .before .before .before .before .before .before .before .before .before .before .before .before .before .before .before .pre .1 .sound)
+look-same-length-9 t c = ram-kept (c .before .before .before .before .idle .ensures .1 .0) (c .before .before .before .before .before .before .before .before .before .before .before .before .before .before .before .before .before .before .before .before .before .pre .1 .sound)
 
 look-same-length-10 : (t : ℕ) → look-lts.Need-same-length-10 (look-calls t) (look-at t) look.Post
-look-same-length-10 t c = dir-kept (c .before .before .before .before .idle .ensures .1) (c .before .before .before .before .before .before .before .before .before .before .before .before .before .before .before .before .before .before .before .before .before .before .pre .1 .sound)
+look-same-length-10 t c = dir-kept (c .before .before .before .before .idle .ensures .1 .0) (c .before .before .before .before .before .before .before .before .before .before .before .before .before .before .before .before .before .before .before .before .before .pre .1 .sound)
 
 look-returns-5 : (t : ℕ) → look-lts.Need-returns-5 (look-calls t) (look-at t) look.Post
-look-returns-5 t c = (idle-after (c .before .before .before .before .before .before .before .before .before .before .before .before .before .before .before .before .before .before .before .before .before .before .args .left) _ _ _ _ (c .before .before .before .before .before .before .before .before .before .before .before .before .before .before .before .before .before .if1 .left) _ _ (gave (c .before .before .before .before .before .before .before .before .before .before .before .before .before .before .read-word .ensures)) (sym (c .before .before .before .before .before .before .before .before .before .before .before .before .is-unfit .ensures) ∙ c .before .before .before .before .before .before .before .before .before .before .before .if2 .left) (sym (c .before .before .before .before .before .before .before .before .before .before .is-tx-complete .ensures) ∙ c .before .before .before .before .before .before .before .before .before .if3 .left) (sym (c .before .before .before .before .before .before .before .before .is-rx-complete .ensures) ∙ c .before .before .before .before .before .before .before .if4 .left) _ _ (c .before .before .before .before .idle .ensures .0), (c .before .before .before .before .idle .ensures .1, unmoved.look-idle (c .before .before .before .before .before .before .before .before .before .before .before .before .before .before .before .before .before .before .before .before .before .before .args .left) _ _ _ _ _ _ _ _ (c .before .before .before .before .before .before .before .before .before .before .before .before .before .before .before .before .before .if1 .left) _ _ (gave (c .before .before .before .before .before .before .before .before .before .before .before .before .before .before .read-word .ensures)) (sym (c .before .before .before .before .before .before .before .before .before .before .before .before .is-unfit .ensures) ∙ c .before .before .before .before .before .before .before .before .before .before .before .if2 .left) (sym (c .before .before .before .before .before .before .before .before .before .before .is-tx-complete .ensures) ∙ c .before .before .before .before .before .before .before .before .before .if3 .left) (sym (c .before .before .before .before .before .before .before .before .is-rx-complete .ensures) ∙ c .before .before .before .before .before .before .before .if4 .left)))
+look-returns-5 t c = let e = unmoved.as-came 14 _ _ _ refl (c .before .before .before .before .before .before .before .before .before .before .before .before .before .before .before .before .before .before .before .before .before .pre .1 .sound) (c .before .before .before .before .before .before .before .before .before .before .before .before .before .read-word .ensures) in let w = sym (c .before .before .before .before .before .before .before .before .before .before .before .before .is-unfit .ensures) ∙ c .before .before .before .before .before .before .before .before .before .before .before .if2 .left in let h = sym (c .before .before .before .before .before .before .before .before .before .before .is-tx-complete .ensures) ∙ c .before .before .before .before .before .before .before .before .before .if3 .left in let x = sym (c .before .before .before .before .before .before .before .before .is-rx-complete .ensures) ∙ c .before .before .before .before .before .before .before .if4 .left in (ways.look-idle (c .before .before .before .before .before .before .before .before .before .before .before .before .before .before .before .before .before .before .before .before .before .args .left) _ _ _ _ (c .before .before .before .before .before .before .before .before .before .before .before .before .before .before .before .before .if1 .left) _ _ e w h _ _ x (c .before .before .before .before .idle .ensures .0), (c .before .before .before .before .idle .ensures .1 .0, unmoved.after-read _ _ _ _ _ _ _ _ 14 (ways.looks-idle _ _ _ _ (c .before .before .before .before .before .before .before .before .before .before .before .before .before .before .before .before .before .before .before .before .before .args .left) (c .before .before .before .before .before .before .before .before .before .before .before .before .before .before .before .before .if1 .left) e w h x) (c .before .before .before .before .idle .ensures .1 .1)))
 
 receive-short-requires : (t : ℕ) → receive-lts.Need-short-requires (receive-calls t) (receive-at t) receive.Post
 receive-short-requires t c κs = search needs
 
 receive-returns : (t : ℕ) → receive-lts.Need-returns (receive-calls t) (receive-at t) receive.Post
-receive-returns t c = rw (c .short .ensures) (ways.receive-none (c .before .before .before .before .before .before .args .left) _ _ _ _ _ (c .before .if1 .taken), c .before .before .before .before .before .before .pre .1 .sound)
+receive-returns t c = rw (c .short .ensures) (ways.receive-none (c .before .before .before .before .before .before .args .left) _ _ _ _ _ (c .before .if1 .taken), (c .before .before .before .before .before .before .pre .1 .sound, unmoved.stays _ _ _ _))
 
 receive-read-word-requires : (t : ℕ) → receive-lts.Need-read-word-requires (receive-calls t) (receive-at t) receive.Post
 receive-read-word-requires t c κs = (c .before .before .before .before .before .before .before .pre .1 .sound, refl)
@@ -181,43 +154,43 @@ receive-short-requires-2 : (t : ℕ) → receive-lts.Need-short-requires-2 (rece
 receive-short-requires-2 t c κs = search needs
 
 receive-same-length : (t : ℕ) → receive-lts.Need-same-length (receive-calls t) (receive-at t) receive.Post
-receive-same-length t c = ram-kept (c .before .before .before .before .before .read-word .ensures .stands .sound) (c .before .before .before .before .before .before .before .before .before .before .before .before .before .pre .1 .sound)
+receive-same-length t c = ram-kept (c .before .before .before .before .read-word .ensures .stands .sound) (c .before .before .before .before .before .before .before .before .before .before .before .before .pre .1 .sound)
 
 receive-same-length-2 : (t : ℕ) → receive-lts.Need-same-length-2 (receive-calls t) (receive-at t) receive.Post
-receive-same-length-2 t c = dir-kept (c .before .before .before .before .before .read-word .ensures .stands .sound) (c .before .before .before .before .before .before .before .before .before .before .before .before .before .pre .1 .sound)
+receive-same-length-2 t c = dir-kept (c .before .before .before .before .read-word .ensures .stands .sound) (c .before .before .before .before .before .before .before .before .before .before .before .before .pre .1 .sound)
 
 receive-returns-2 : (t : ℕ) → receive-lts.Need-returns-2 (receive-calls t) (receive-at t) receive.Post
-receive-returns-2 t c = rw (c .short2 .ensures) (ways.receive-one (c .before .before .before .before .before .before .before .before .before .before .before .before .before .args .left) _ _ _ _ (c .before .before .before .before .before .before .before .before .if1 .left) _ _ (gave (c .before .before .before .before .before .read-word .ensures)) (sym (c .before .before .before .is-bad .ensures) ∙ c .before .before .if2 .taken) _ (c .before .if3 .taken), c .before .before .before .before .before .read-word .ensures .stands .sound)
+receive-returns-2 t c = rw (c .short2 .ensures) (ways.receive-one (c .before .before .before .before .before .before .before .before .before .before .before .before .args .left) _ _ _ _ (c .before .before .before .before .before .before .before .if1 .left) _ _ (unmoved.as-came 8 _ _ _ refl (c .before .before .before .before .before .before .before .before .before .before .before .before .pre .1 .sound) (c .before .before .before .before .read-word .ensures)) (sym (c .before .before .before .is-bad .ensures) ∙ c .before .before .if2 .taken) _ (c .before .if3 .taken), (c .before .before .before .before .before .before .before .before .before .before .before .before .pre .1 .sound, unmoved.stays _ _ _ _))
 
 receive-discard-requires : (t : ℕ) → receive-lts.Need-discard-requires (receive-calls t) (receive-at t) receive.Post
-receive-discard-requires t c κs = c .before .before .before .before .before .before .read-word .ensures .stands .sound
+receive-discard-requires t c κs = c .before .before .before .before .before .before .before .before .before .before .before .before .before .pre .1 .sound
 
-receive-sub-t26 : (t : ℕ) → receive-lts.Need-sub-t26 (receive-calls t) (receive-at t) receive.Post
-receive-sub-t26 t c = omega (arith, c .before .before .before .before .before .before .before .before .before .before .before .before .before .before .before .if1 .left, c .before .before .before .before .before .before .before .before .if3 .left)
+receive-sub-t25 : (t : ℕ) → receive-lts.Need-sub-t25 (receive-calls t) (receive-at t) receive.Post
+receive-sub-t25 t c = omega (arith, c .before .before .before .before .before .before .before .before .before .before .before .before .before .before .if1 .left, c .before .before .before .before .before .before .before .before .if3 .left)
 
 receive-same-length-3 : (t : ℕ) → receive-lts.Need-same-length-3 (receive-calls t) (receive-at t) receive.Post
-receive-same-length-3 t c = ram-kept (c .before .before .before .before .before .discard .ensures .sound) (c .before .before .before .before .before .before .before .before .before .before .before .before .before .before .before .before .before .before .before .before .pre .1 .sound)
+receive-same-length-3 t c = ram-kept (c .before .before .before .before .before .discard .ensures .sound) (c .before .before .before .before .before .before .before .before .before .before .before .before .before .before .before .before .before .before .before .pre .1 .sound)
 
 receive-same-length-4 : (t : ℕ) → receive-lts.Need-same-length-4 (receive-calls t) (receive-at t) receive.Post
-receive-same-length-4 t c = dir-kept (c .before .before .before .before .before .discard .ensures .sound) (c .before .before .before .before .before .before .before .before .before .before .before .before .before .before .before .before .before .before .before .before .pre .1 .sound)
+receive-same-length-4 t c = dir-kept (c .before .before .before .before .before .discard .ensures .sound) (c .before .before .before .before .before .before .before .before .before .before .before .before .before .before .before .before .before .before .before .pre .1 .sound)
 
 receive-returns-3 : (t : ℕ) → receive-lts.Need-returns-3 (receive-calls t) (receive-at t) receive.Post
-receive-returns-3 t c = (ways.receive-pause (c .before .before .before .before .before .before .before .before .before .before .before .before .before .before .before .before .before .before .before .before .args .left) _ _ _ _ (c .before .before .before .before .before .before .before .before .before .before .before .before .before .before .before .if1 .left) _ _ (gave (c .before .before .before .before .before .before .before .before .before .before .before .before .read-word .ensures)) (sym (c .before .before .before .before .before .before .before .before .before .before .is-bad .ensures) ∙ c .before .before .before .before .before .before .before .before .before .if2 .taken) (c .before .before .before .before .before .before .before .before .if3 .left) _ _ (wrote _ (c .before .before .before .before .before .discard .ensures)) _ _, c .before .before .before .before .before .discard .ensures .sound)
+receive-returns-3 t c = let e = unmoved.as-came 8 _ _ _ refl (c .before .before .before .before .before .before .before .before .before .before .before .before .before .before .before .before .before .before .before .pre .1 .sound) (c .before .before .before .before .before .before .before .before .before .before .before .read-word .ensures) in let w = sym (c .before .before .before .before .before .before .before .before .before .before .is-bad .ensures) ∙ c .before .before .before .before .before .before .before .before .before .if2 .taken in let x = wrote _ (c .before .before .before .before .before .discard .ensures) in (ways.receive-pause (c .before .before .before .before .before .before .before .before .before .before .before .before .before .before .before .before .before .before .before .args .left) _ _ _ _ (c .before .before .before .before .before .before .before .before .before .before .before .before .before .before .if1 .left) _ _ e w (c .before .before .before .before .before .before .before .before .if3 .left) _ _ x _ _, (c .before .before .before .before .before .discard .ensures .sound, unmoved.after-discard _ _ _ _ _ _ _ _ (ways.dropped (c .before .before .before .before .before .before .before .before .before .before .before .before .before .before .before .before .before .before .before .args .left) _ _ [] [] (c .before .before .before .before .before .before .before .before .before .before .before .before .before .before .if1 .left) _ _ e w (c .before .before .before .before .before .before .before .before .if3 .left) _ _ x)))
 
 receive-sub-look : (t : ℕ) → receive-lts.Need-sub-look (receive-calls t) (receive-at t) receive.Post
-receive-sub-look t c = omega (arith, c .before .before .before .before .before .before .before .before .before .before .before .before .before .before .before .before .before .before .before .if1 .left, c .before .before .before .before .before .before .before .before .before .before .before .before .if3 .left)
+receive-sub-look t c = omega (arith, c .before .before .before .before .before .before .before .before .before .before .before .before .before .before .before .before .before .before .if1 .left, c .before .before .before .before .before .before .before .before .before .before .before .before .if3 .left)
 
 receive-sub-look-2 : (t : ℕ) → receive-lts.Need-sub-look-2 (receive-calls t) (receive-at t) receive.Post
 receive-sub-look-2 t c = omega (arith, c .before .before .before .before .if4 .left)
 
 receive-look-requires : (t : ℕ) → receive-lts.Need-look-requires (receive-calls t) (receive-at t) receive.Post
-receive-look-requires t c κs = (omega (arith, c .before .before .before .before .before .before .before .before .before .before .before .before .before .before .before .before .before .before .before .before .before .before .before .before .pre .0, c .before .before .before .before .before .before .before .before .before .before .before .before .before .before .before .before .before .before .before .if1 .left, c .before .before .before .before .before .before .before .before .before .before .before .before .if3 .left), record { sound = c .before .before .before .before .before .before .before .before .before .discard .ensures .sound; look = c .before .before .before .before .before .before .before .before .before .before .before .before .before .before .before .before .before .before .before .before .before .before .before .before .pre .1 .look; frame = c .before .before .before .before .before .before .before .before .before .before .before .before .before .before .before .before .before .before .before .before .before .before .before .before .pre .1 .frame })
+receive-look-requires t c κs = (omega (arith, c .before .before .before .before .before .before .before .before .before .before .before .before .before .before .before .before .before .before .before .before .before .before .before .pre .0, c .before .before .before .before .before .before .before .before .before .before .before .before .before .before .before .before .before .before .if1 .left, c .before .before .before .before .before .before .before .before .before .before .before .before .if3 .left), record { sound = c .before .before .before .before .before .before .before .before .before .discard .ensures .sound; look = c .before .before .before .before .before .before .before .before .before .before .before .before .before .before .before .before .before .before .before .before .before .before .before .pre .1 .look; frame = c .before .before .before .before .before .before .before .before .before .before .before .before .before .before .before .before .before .before .before .before .before .before .before .pre .1 .frame })
 
 receive-same-length-5 : (t : ℕ) → receive-lts.Need-same-length-5 (receive-calls t) (receive-at t) receive.Post
-receive-same-length-5 t c = ram-kept (c .before .before .before .before .before .before .before .before .look .ensures .1 .0) (c .before .before .before .before .before .before .before .before .before .before .before .before .before .before .before .before .before .before .before .before .before .before .before .before .before .before .before .before .before .before .before .before .before .pre .1 .sound)
+receive-same-length-5 t c = ram-kept (c .before .before .before .before .before .before .before .before .look .ensures .1 .0) (c .before .before .before .before .before .before .before .before .before .before .before .before .before .before .before .before .before .before .before .before .before .before .before .before .before .before .before .before .before .before .before .before .pre .1 .sound)
 
 receive-same-length-6 : (t : ℕ) → receive-lts.Need-same-length-6 (receive-calls t) (receive-at t) receive.Post
-receive-same-length-6 t c = dir-kept (c .before .before .before .before .before .before .before .before .look .ensures .1 .0) (c .before .before .before .before .before .before .before .before .before .before .before .before .before .before .before .before .before .before .before .before .before .before .before .before .before .before .before .before .before .before .before .before .before .pre .1 .sound)
+receive-same-length-6 t c = dir-kept (c .before .before .before .before .before .before .before .before .look .ensures .1 .0) (c .before .before .before .before .before .before .before .before .before .before .before .before .before .before .before .before .before .before .before .before .before .before .before .before .before .before .before .before .before .before .before .before .pre .1 .sound)
 
 receive-same-length-7 : (t : ℕ) → receive-lts.Need-same-length-7 (receive-calls t) (receive-at t) receive.Post
 receive-same-length-7 t c = search needs
@@ -226,22 +199,22 @@ receive-same-length-8 : (t : ℕ) → receive-lts.Need-same-length-8 (receive-ca
 receive-same-length-8 t c = search needs
 
 receive-returns-4 : (t : ℕ) → receive-lts.Need-returns-4 (receive-calls t) (receive-at t) receive.Post
-receive-returns-4 t c = (ways.receive-again (c .before .before .before .before .before .before .before .before .before .before .before .before .before .before .before .before .before .before .before .before .before .before .before .before .before .before .before .before .before .before .before .before .before .args .left) _ _ _ _ (c .before .before .before .before .before .before .before .before .before .before .before .before .before .before .before .before .before .before .before .before .before .before .before .before .before .before .before .before .if1 .left) _ _ (gave (c .before .before .before .before .before .before .before .before .before .before .before .before .before .before .before .before .before .before .before .before .before .before .before .before .before .read-word .ensures)) (sym (c .before .before .before .before .before .before .before .before .before .before .before .before .before .before .before .before .before .before .before .before .before .before .before .is-bad .ensures) ∙ c .before .before .before .before .before .before .before .before .before .before .before .before .before .before .before .before .before .before .before .before .before .before .if2 .taken) (c .before .before .before .before .before .before .before .before .before .before .before .before .before .before .before .before .before .before .before .before .before .if3 .left) _ _ (wrote _ (c .before .before .before .before .before .before .before .before .before .before .before .before .before .before .before .before .before .before .discard .ensures)) _ _ _ _ (c .before .before .before .before .before .before .before .before .look .ensures .0), c .before .before .before .before .before .before .before .before .look .ensures .1 .0)
+receive-returns-4 t c = let e = unmoved.as-came 8 _ _ _ refl (c .before .before .before .before .before .before .before .before .before .before .before .before .before .before .before .before .before .before .before .before .before .before .before .before .before .before .before .before .before .before .before .before .pre .1 .sound) (c .before .before .before .before .before .before .before .before .before .before .before .before .before .before .before .before .before .before .before .before .before .before .before .before .read-word .ensures) in let w = sym (c .before .before .before .before .before .before .before .before .before .before .before .before .before .before .before .before .before .before .before .before .before .before .before .is-bad .ensures) ∙ c .before .before .before .before .before .before .before .before .before .before .before .before .before .before .before .before .before .before .before .before .before .before .if2 .taken in let x = wrote _ (c .before .before .before .before .before .before .before .before .before .before .before .before .before .before .before .before .before .before .discard .ensures) in (ways.receive-again (c .before .before .before .before .before .before .before .before .before .before .before .before .before .before .before .before .before .before .before .before .before .before .before .before .before .before .before .before .before .before .before .before .args .left) _ _ _ _ (c .before .before .before .before .before .before .before .before .before .before .before .before .before .before .before .before .before .before .before .before .before .before .before .before .before .before .before .if1 .left) _ _ e w (c .before .before .before .before .before .before .before .before .before .before .before .before .before .before .before .before .before .before .before .before .before .if3 .left) _ _ x _ _ _ _ (c .before .before .before .before .before .before .before .before .look .ensures .0), (c .before .before .before .before .before .before .before .before .look .ensures .1 .0, unmoved.after-discard _ _ _ _ _ _ _ _ (ways.dropped (c .before .before .before .before .before .before .before .before .before .before .before .before .before .before .before .before .before .before .before .before .before .before .before .before .before .before .before .before .before .before .before .before .args .left) _ _ [] [] (c .before .before .before .before .before .before .before .before .before .before .before .before .before .before .before .before .before .before .before .before .before .before .before .before .before .before .before .if1 .left) _ _ e w (c .before .before .before .before .before .before .before .before .before .before .before .before .before .before .before .before .before .before .before .before .before .if3 .left) _ _ x)))
 
 receive-cast-n : (t : ℕ) → receive-lts.Need-cast-n (receive-calls t) (receive-at t) receive.Post
 receive-cast-n t c = search needs
 
 receive-sub-fetch : (t : ℕ) → receive-lts.Need-sub-fetch (receive-calls t) (receive-at t) receive.Post
-receive-sub-fetch t c = omega (arith, c .before .before .before .before .before .before .before .before .before .before .if1 .left)
+receive-sub-fetch t c = omega (arith, c .before .before .before .before .before .before .before .before .before .if1 .left)
 
 receive-fetch-requires : (t : ℕ) → receive-lts.Need-fetch-requires (receive-calls t) (receive-at t) receive.Post
-receive-fetch-requires t c κs = (record { sound = c .before .before .before .before .before .before .before .read-word .ensures .stands .sound; look = c .before .before .before .before .before .before .before .before .before .before .before .before .before .before .before .pre .1 .look; frame = c .before .before .before .before .before .before .before .before .before .before .before .before .before .before .before .pre .1 .frame }, ways.good-size _ (sym (c .before .before .before .before .before .is-bad .ensures) ∙ c .before .before .before .before .if2 .left))
+receive-fetch-requires t c κs = (record { sound = c .before .before .before .before .before .before .before .before .before .before .before .before .before .before .pre .1 .sound; look = c .before .before .before .before .before .before .before .before .before .before .before .before .before .before .pre .1 .look; frame = c .before .before .before .before .before .before .before .before .before .before .before .before .before .before .pre .1 .frame }, ways.good-size _ (sym (c .before .before .before .before .before .is-bad .ensures) ∙ c .before .before .before .before .if2 .left))
 
 receive-same-length-9 : (t : ℕ) → receive-lts.Need-same-length-9 (receive-calls t) (receive-at t) receive.Post
-receive-same-length-9 t c = ram-kept (c .before .before .before .before .before .before .before .before .fetch .ensures .1) (c .before .before .before .before .before .before .before .before .before .before .before .before .before .before .before .before .before .before .before .before .before .before .before .before .pre .1 .sound)
+receive-same-length-9 t c = ram-kept (c .before .before .before .before .before .before .before .before .fetch .ensures .1 .0) (c .before .before .before .before .before .before .before .before .before .before .before .before .before .before .before .before .before .before .before .before .before .before .before .pre .1 .sound)
 
 receive-same-length-10 : (t : ℕ) → receive-lts.Need-same-length-10 (receive-calls t) (receive-at t) receive.Post
-receive-same-length-10 t c = dir-kept (c .before .before .before .before .before .before .before .before .fetch .ensures .1) (c .before .before .before .before .before .before .before .before .before .before .before .before .before .before .before .before .before .before .before .before .before .before .before .before .pre .1 .sound)
+receive-same-length-10 t c = dir-kept (c .before .before .before .before .before .before .before .before .fetch .ensures .1 .0) (c .before .before .before .before .before .before .before .before .before .before .before .before .before .before .before .before .before .before .before .before .before .before .before .pre .1 .sound)
 
 receive-same-length-11 : (t : ℕ) → receive-lts.Need-same-length-11 (receive-calls t) (receive-at t) receive.Post
 receive-same-length-11 t c = search needs
@@ -250,7 +223,7 @@ receive-same-length-12 : (t : ℕ) → receive-lts.Need-same-length-12 (receive-
 receive-same-length-12 t c = search needs
 
 receive-returns-5 : (t : ℕ) → receive-lts.Need-returns-5 (receive-calls t) (receive-at t) receive.Post
-receive-returns-5 t c = (ways.receive-fetch (c .before .before .before .before .before .before .before .before .before .before .before .before .before .before .before .before .before .before .before .before .before .before .before .before .args .left) _ _ _ _ (c .before .before .before .before .before .before .before .before .before .before .before .before .before .before .before .before .before .before .before .if1 .left) _ _ (gave (c .before .before .before .before .before .before .before .before .before .before .before .before .before .before .before .before .read-word .ensures)) _ _ _ _ (sym (c .before .before .before .before .before .before .before .before .before .before .before .before .before .before .is-bad .ensures) ∙ c .before .before .before .before .before .before .before .before .before .before .before .before .before .if2 .left) (c .before .before .before .before .before .before .before .before .fetch .ensures .0), c .before .before .before .before .before .before .before .before .fetch .ensures .1)
+receive-returns-5 t c = let e = unmoved.as-came 8 _ _ _ refl (c .before .before .before .before .before .before .before .before .before .before .before .before .before .before .before .before .before .before .before .before .before .before .before .pre .1 .sound) (c .before .before .before .before .before .before .before .before .before .before .before .before .before .before .before .read-word .ensures) in let w = sym (c .before .before .before .before .before .before .before .before .before .before .before .before .before .before .is-bad .ensures) ∙ c .before .before .before .before .before .before .before .before .before .before .before .before .before .if2 .left in (ways.receive-fetch (c .before .before .before .before .before .before .before .before .before .before .before .before .before .before .before .before .before .before .before .before .before .before .before .args .left) _ _ _ _ (c .before .before .before .before .before .before .before .before .before .before .before .before .before .before .before .before .before .before .if1 .left) _ _ e _ _ _ _ w (c .before .before .before .before .before .before .before .before .fetch .ensures .0), (c .before .before .before .before .before .before .before .before .fetch .ensures .1 .0, unmoved.after-read _ _ _ _ _ _ _ _ 8 (ways.receives-good _ _ _ _ (c .before .before .before .before .before .before .before .before .before .before .before .before .before .before .before .before .before .before .before .before .before .before .before .args .left) (c .before .before .before .before .before .before .before .before .before .before .before .before .before .before .before .before .before .before .if1 .left) e w) (c .before .before .before .before .before .before .before .before .fetch .ensures .1 .1)))
 
 pub +look+receive-spec : {M : Type 1} → statement M
 +look+receive-spec = close μ-look μ-receive (λ t. look-lts.spec (look-calls t)
@@ -296,7 +269,7 @@ pub +look+receive-spec : {M : Type 1} → statement M
     (receive-same-length-2 t)
     (receive-returns-2 t)
     (receive-discard-requires t)
-    (receive-sub-t26 t)
+    (receive-sub-t25 t)
     (receive-same-length-3 t)
     (receive-same-length-4 t)
     (receive-returns-3 t)

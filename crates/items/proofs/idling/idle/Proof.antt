@@ -15,6 +15,7 @@ use Rattle.driver_rules.specs.Items.{idleTalk}
 use Rattle.driver_rules.specs.Meets.{Tells}
 use Rattle.driver_rules.proofs.Runs.{wrote, ram-kept, dir-kept}
 use Rattle.driver_rules.proofs.ItemWays.{answered, stops}
+use Rattle.driver_rules.proofs.Unmoved as unmoved
 use borrow.Author.Needs.{needs}
 use Rattle.items.proofs.idling.idle.Statement.{statement}
 use Rattle.items.proofs.idling.idle.Tie as tie
@@ -33,7 +34,7 @@ short-requires : tie.Need-short-requires
 short-requires c κs = search needs
 
 returns : tie.Need-returns
-returns c = rw (c .short .ensures) (none (c .before .before .before .before .args .left) _ _ _ (c .before .if1 .taken), c .before .before .before .before .pre)
+returns c = rw (c .short .ensures) (none (c .before .before .before .before .args .left) _ _ _ (c .before .if1 .taken), (c .before .before .before .before .pre, unmoved.stays _ _ _ _))
 
 add-write-word : tie.Need-add-write-word
 add-write-word c = search needs
@@ -54,7 +55,7 @@ same-length-2 : tie.Need-same-length-2
 same-length-2 c = dir-kept (c .before .before .before .before .before .write-word .ensures .sound) (c .before .before .before .before .before .before .before .before .before .before .before .pre)
 
 returns-2 : tie.Need-returns-2
-returns-2 c = rw (c .ended .ensures) (done (c .before .before .before .before .before .before .before .before .before .before .before .args .left) _ _ _ _ _ (c .before .before .before .before .before .before .before .before .if1 .left) (wrote _ (c .before .before .before .before .before .write-word .ensures)), c .before .before .before .before .before .write-word .ensures .sound)
+returns-2 c = rw (c .ended .ensures) (let t = done (c .before .before .before .before .before .before .before .before .before .before .before .args .left) _ _ _ _ _ (c .before .before .before .before .before .before .before .before .if1 .left) (wrote _ (c .before .before .before .before .before .write-word .ensures)) in (t, (c .before .before .before .before .before .write-word .ensures .sound, unmoved.begun _ _ _ _ _ _ (t [] []) refl)))
 
 pub idle-spec : {M : Type 1} → statement M
 idle-spec =

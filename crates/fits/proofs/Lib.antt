@@ -5,3 +5,6 @@ pub mod Driver
 pub mod Free
 pub mod Service
 pub mod Order
+pub mod Rows
+pub mod Needs
+pub mod When

@@ -3,3 +3,4 @@ pub mod Agree
 pub mod Fits
 pub mod Free
 pub mod Order
+pub mod When

@@ -7,4 +7,6 @@ pub mod Service
 pub mod Order
 pub mod Rows
 pub mod Needs
+pub mod Endless
 pub mod When
+pub mod NeedsExamples

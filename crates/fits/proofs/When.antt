@@ -38,6 +38,7 @@ use Rattle.fits.specs.Order.{statusRead, freeRead}
 use Rattle.fits.specs.When.{looked, Short, Enough, Begun, Open-when, Send-when, Service-when, Refused-exactly-when}
 use Rattle.fits.proofs.Rows.{number, apart, nowhere, here, here-not, behind, behind-not, last, last-not, said}
 use Rattle.fits.proofs.Needs.{six, ends-short, short-when, spared, one-need}
+use Rattle.fits.proofs.Endless.{endless}
 use Rattle.fits.proofs.Service.{Ways, of-look}
 
 -- ---- open
@@ -259,4 +260,5 @@ refused-exactly-when =
           service-when (soundState c ram dir d) d budget look frame (view c ram dir) (r .used) (servicePaper (r .answer) (r .used))
           (ap (λ (x : Answer). servicePaper x (r .used)) (k .answer) ∙ service-says (soundState c ram dir d) d budget look frame (view c ram dir) (r .used));
       one-need = one-need;
+      endless = λ a s on w f u t x g budget n k. absurd (endless a s on w f u t x g a n refl k);
     }

@@ -4,3 +4,4 @@ pub mod Fits
 pub mod Free
 pub mod Order
 pub mod When
+pub mod NeedsExamples

@@ -8,6 +8,7 @@ use lib.ListN.{length}
 use lib.Dec.{ltb}
 use Rattle.card_rules.specs.declared.Card.{Card}
 use Rattle.card_rules.specs.Adapter.{Adapter}
+use Rattle.card_rules.specs.Sound.{sound}
 use Rattle.card_rules.specs.View.{view}
 use Rattle.card_rules.specs.Access.{ReadWord, WriteWord, access}
 use Rattle.driver_rules.specs.declared.Driver.{Driver}
@@ -48,7 +49,7 @@ pub data Needs : Adapter → ℕ → Type 0 where
   -- else idle
   idle : (a : Adapter) → unfit (statusRead a) ≡ false → txComplete (statusRead a) ≡ false → rxComplete (statusRead a) ≡ false → Needs a (1 + 1)
 
--- Budget short: less than what the service needs. Where its discards do nothing (a receive failure that is hidden) no number is enough, and every budget is short.
+-- Budget short: less than what the service needs. Where it would discard for ever it needs no number (`endless`), and every budget is short.
 abbrev pub Short : ℕ → Adapter → Type 0
 Short budget a = (n : ℕ) → Needs a n → budget < n
 
@@ -116,3 +117,6 @@ pub record Refused-exactly-when : Type 0 where
       → Service-when (soundState c ram dir d) d budget look frame (view c ram dir) (r .used) (servicePaper (r .answer) (r .used))
   -- What a service needs is one number.
   pub one-need : (a : Adapter) (n m : ℕ) → Needs a n → Needs a m → n ≡ m
+  -- A receive failure stands, but the Read Zero mask hides it: discards do nothing, and a damaged frame stays the oldest.
+  pub endless : (a : Adapter) → sound a ≡ true → a .id .active ≡ true → a .select .window ≡ 1 → a .rx .receiver .failed ≡ true
+      → unfit (statusRead a) ≡ false → txComplete (statusRead a) ≡ false → rxComplete (statusRead a) ≡ true → bad (rxRead a) ≡ true → (budget : ℕ) → Short budget a

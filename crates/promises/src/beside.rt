@@ -7,6 +7,9 @@ ghost use Rattle.sends_carried.specs.Rooms.{Bench-rows-of-TX-Free};
 ghost use Rattle.frames_carried.specs.Carried.{Stores-are-such, A-good-frame-arrives, One-good-frame-is-stored, One-good-frame-is-handed-up, A-budget-of-3061-is-enough};
 ghost use Rattle.fits.specs.Free.{The-memory-is-left-free};
 ghost use Rattle.fits.specs.Order.{Refusals-come-in-order};
+ghost use Rattle.fits.specs.When.{Refused-exactly-when};
+ghost use Rattle.fits.specs.NeedsExamples.{What-services-need};
+ghost use Rattle.run_calls.specs.OneTest.{The-one-test-of-soundness};
 ghost use Rattle.driver_rules.specs.Unfit.{Unfit-comes-at-once};
 ghost use Rattle.driver_examples.specs.Send.{Send-examples};
 ghost use Rattle.driver_examples.specs.Service.{Service-examples, A-frame-of-1514-bytes, What-a-good-frame-costs};
@@ -117,6 +120,21 @@ pub fn the_memory_is_left_free()
 // Every call's refusals come in the one order of the papers.
 pub fn refusals_come_in_order()
     ensures { λ _. ⌜ Refusals-come-in-order ⌝ }
+{}
+
+// Open, send and service answer a number exactly when document 01's table says so; 6 exactly when the budget is less than what the service needs.
+pub fn refused_exactly_when()
+    ensures { λ _. ⌜ Refused-exactly-when ⌝ }
+{}
+
+// A report needs 5 accesses, a good frame of 60 bytes 33, one of 1,514 bytes 760.
+pub fn what_services_need()
+    ensures { λ _. ⌜ What-services-need ⌝ }
+{}
+
+// The code's test of soundness and that of the runs are one.
+pub fn the_one_test_of_soundness()
+    ensures { λ _. ⌜ The-one-test-of-soundness ⌝ }
 {}
 
 // Refusal 5 comes at the first Status read of a service or not at all.

@@ -3,3 +3,4 @@ pub mod All
 pub mod Card
 pub mod Driver
 pub mod Good
+pub mod OneTest

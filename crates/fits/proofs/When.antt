@@ -223,9 +223,6 @@ module _ (sound : Bool) (d : Driver) (budget : ℕ) (look frame : List ℕ) (a :
   not-five : (n : ℕ) → eqb n 5 ≡ false → begun-says ≡ refused n → ⊥
   not-five n h e = apart (refused n) (refused 5) h (ap refused (five n e .0))
 
-  five-when : begun-says ≡ refused 5 ↔ (0 < budget) × (unfit (statusRead a) ≡ true)
-  five-when = (λ e. unfit-shown budget d a (five 5 e .1), λ p. ap (λ (x : Answer). servicePaper x used) (unfit-said budget d a (p .0) (p .1)))
-
   six-when : begun-says ≡ paper.short used ↔ Short budget a
   six-when =
       let w = says-short answers used in
@@ -242,7 +239,9 @@ module _ (sound : Bool) (d : Driver) (budget : ℕ) (look frame : List ℕ) (a :
         refusal-1 = said e (here-not sound 1 (nowhere (not (d .opened)) 13 (refused 1) refl (nowhere (not areas) 7 (refused 1) refl (not-five 1 refl))));
         refusal-13 = said e (behind-not sound 1 (refused 13) refl (here-not (d .opened) 13 (nowhere (not areas) 7 (refused 13) refl (not-five 13 refl))));
         refusal-7 = said e (behind-not sound 1 (refused 7) refl (behind-not (d .opened) 13 (refused 7) refl (here-not areas 7 (not-five 7 refl))));
-        refusal-5 = begun says (refused 5) e refl refl refl five-when;
+        refusal-5 =
+            begun says (refused 5) e refl refl refl
+            (λ f. let q = unfit-shown budget d a (five 5 f .1) in (omega (arith, q .0), q .1), λ p. ap (λ (x : Answer). servicePaper x used) (unfit-said budget d a (omega (arith, p .0)) (p .1)));
         refusal-6 = begun says (paper.short used) e refl refl refl six-when;
         enough = λ h.
             by-test (six answers)

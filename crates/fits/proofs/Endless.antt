@@ -13,7 +13,7 @@ use Rattle.card_rules.specs.Settle.{settle}
 use Rattle.card_rules.specs.Command.{command, commanded}
 use Rattle.card_rules.specs.Read.{afterWord}
 use Rattle.card_rules.specs.Write.{writeWord}
-use Rattle.card_rules.specs.Access.{Access, ReadWord, WriteWord, Step, effect, access}
+use Rattle.card_rules.specs.Access.{ReadWord, WriteWord, Step, effect, access}
 use Rattle.card_rules.proofs.Sides.{settle-stays}
 use Rattle.card_rules.proofs.StepEnds.{awake}
 use Rattle.driver_rules.specs.Registers.{unfit, txComplete, rxComplete, bad}

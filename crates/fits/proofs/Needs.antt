@@ -7,15 +7,14 @@ use Prim.Native.Nat.{ℕ, zero, suc, _+_, _%_, _<_, _≤_}
 use native.Mathlib.Omega.{arith}
 use borrow.Author.Tests.{lt-ltb, le-ltb, ltb-true, ltb-false}
 use lib.Dec.{ltb, eqb}
-use lib.ListN.{take}
 use Rattle.refusal.specs.Number.{numberOf}
 use Rattle.bits.proofs.Tests.{of-cond, by-test, never}
 use Rattle.card_rules.specs.Adapter.{Adapter}
 use Rattle.card_rules.specs.Access.{Access, ReadWord, access}
 use Rattle.driver_rules.specs.declared.Driver.{Driver}
 use Rattle.driver_rules.specs.Driver.{neverOpened, withError}
-use Rattle.driver_rules.specs.Registers.{rxStatus, rxDiscard, unfit, txComplete, rxComplete, bad}
-use Rattle.driver_rules.specs.Talk.{Talk, done, ask, order, Ran, run, readWords, bytesRead, afterReads}
+use Rattle.driver_rules.specs.Registers.{rxStatus, unfit, txComplete, rxComplete, bad}
+use Rattle.driver_rules.specs.Talk.{Talk, done, ask, Ran, run, readWords, bytesRead, afterReads}
 use Rattle.driver_rules.proofs.Runs.{reads-law}
 use Rattle.driver_rules.specs.declared.Answer.{Answer}
 use Rattle.driver_rules.specs.declared.Answer.the-variants as serving
@@ -148,10 +147,10 @@ mutual
   spared (suc left) d a e =
       let s : ℕ = statusRead a in
       let e₁ = sym (looks left d a) ∙ e in
-      by-test (unfit s) (λ u. record { need = _; needed = unfit-card a u; there = omega arith })
-      (λ u. by-test (txComplete s) (λ t. let f : 4 ≤ left = ltb-false left 4 (then-of (txComplete s) _ _ t (else-of (unfit s) _ _ u e₁)) in record { need = _; needed = report a u t; there = omega arith })
+      by-test (unfit s) (λ u. record { need = _; needed = unfit-card a u; within = omega arith })
+      (λ u. by-test (txComplete s) (λ t. let f : 4 ≤ left = ltb-false left 4 (then-of (txComplete s) _ _ t (else-of (unfit s) _ _ u e₁)) in record { need = _; needed = report a u t; within = omega arith })
       (λ t. by-test (rxComplete s) (λ x. received left d a u t x (then-of (rxComplete s) _ _ x (else-of (txComplete s) _ _ t (else-of (unfit s) _ _ u e₁))))
-      (λ x. let f : 1 ≤ left = ltb-false left 1 (else-of (rxComplete s) _ _ x (else-of (txComplete s) _ _ t (else-of (unfit s) _ _ u e₁))) in record { need = _; needed = idle a u t x; there = omega arith })))
+      (λ x. let f : 1 ≤ left = ltb-false left 1 (else-of (rxComplete s) _ _ x (else-of (txComplete s) _ _ t (else-of (unfit s) _ _ u e₁))) in record { need = _; needed = idle a u t x; within = omega arith })))
 
   received : (left : ℕ) (d : Driver) (a : Adapter) → unfit (statusRead a) ≡ false → txComplete (statusRead a) ≡ false → rxComplete (statusRead a) ≡ true
       → ends-short (receiveTalk left d) (looked a) ≡ false → Enough (suc left) a
@@ -159,15 +158,15 @@ mutual
   received (suc left) d a u t x e =
       let e₁ = sym (receives left d a) ∙ e in
       by-test (bad (rxRead a)) (λ g. dropped left d a u t x g (then-of (bad (rxRead a)) _ _ g e₁))
-      (λ g. let f : wordsIn (rxRead a % 2048) + 1 ≤ left = ltb-false left (wordsIn (rxRead a % 2048) + 1) (else-of (bad (rxRead a)) _ _ g e₁) in record { need = _; needed = good-frame a u t x g; there = omega arith })
+      (λ g. let f : wordsIn (rxRead a % 2048) + 1 ≤ left = ltb-false left (wordsIn (rxRead a % 2048) + 1) (else-of (bad (rxRead a)) _ _ g e₁) in record { need = _; needed = good-frame a u t x g; within = omega arith })
 
   dropped : (left : ℕ) (d : Driver) (a : Adapter) → unfit (statusRead a) ≡ false → txComplete (statusRead a) ≡ false → rxComplete (statusRead a) ≡ true → bad (rxRead a) ≡ true
       → ends-short (dropTalk left d) ((access (ReadWord rxStatus) (looked a)) .adapter) ≡ false → Enough (suc (suc left)) a
   dropped zero d a u t x g e = never (sym e)
   dropped (suc left) d a u t x g e =
       let q : Enough left (discarded a) = spared left d (discarded a) e in
-      let f : q .need ≤ left = q .there in
-      record { need = _; needed = damaged-frame a (q .need) u t x g (q .needed); there = omega arith }
+      let f : q .need ≤ left = q .within in
+      record { need = _; needed = damaged-frame a (q .need) u t x g (q .needed); within = omega arith }
 
 -- ---- both ways
 
@@ -175,5 +174,5 @@ pub short-when : (budget : ℕ) (d : Driver) (a : Adapter) → ends-short (lookT
 short-when budget d a = (
   λ e n h. ltb-true budget n (sym (needs-short a n h budget d) ∙ e),
   λ k. by-test (ends-short (lookTalk budget d) a) (λ y. y)
-      (λ n. let q : Enough budget a = spared budget d a n in let f : budget < q .need = k (q .need) (q .needed) in let g : q .need ≤ budget = q .there in absurd (omega arith)),
+      (λ n. let q : Enough budget a = spared budget d a n in let f : budget < q .need = k (q .need) (q .needed) in let g : q .need ≤ budget = q .within in absurd (omega arith)),
 )

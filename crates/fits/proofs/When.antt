@@ -2,7 +2,7 @@
 use mathlib.Core.Path.{_≡_, refl, sym, ap, _∙_}
 use mathlib.Core.Logic.{_↔_, _⊎_, inl, inr}
 use mathlib.Core.Bool.{Bool, true, false, cond, not}
-use mathlib.Core.List.{List, [], _∷_}
+use mathlib.Core.List.{List}
 use Prim.Native.Nat.{ℕ, zero, suc, _<_}
 use native.Mathlib.Omega.{arith}
 use lib.Dec.{ltb, eqb}
@@ -11,14 +11,10 @@ use Rattle.refusal.specs.declared.Refusal.{Refusal}
 use Rattle.refusal.specs.declared.Refusal.the-variants.{StateUnsound, NeverOpened, AreaShort, CardUnfit}
 use Rattle.refusal.specs.Number.{numberOf}
 use Rattle.bits.proofs.Tests.{of-cond, by-test, never}
-use Rattle.card_rules.specs.declared.Card.{Card}
 use Rattle.card_rules.specs.Adapter.{Adapter}
 use Rattle.card_rules.specs.View.{view}
 use Rattle.card_rules.specs.Access.{Access}
 use Rattle.driver_rules.specs.declared.Driver.{Driver}
-use Rattle.driver_rules.specs.declared.Opened.{Opened}
-use Rattle.driver_rules.specs.declared.Sent.{Sent}
-use Rattle.driver_rules.specs.declared.Serviced.{Serviced}
 use Rattle.driver_rules.specs.Registers.{unfit, txComplete, rxComplete}
 use Rattle.driver_rules.specs.Packet.{outside, lacksRoom, packetWords}
 use Rattle.driver_rules.specs.Talk.{Talk, done, ask, Ran, run}
@@ -32,12 +28,12 @@ use Rattle.driver_rules.specs.Items.{Serving, plain, short, reportTalk, idleTal
 use Rattle.driver_rules.specs.Service.{lookTalk, receiveTalk}
 use Rattle.driver_rules.specs.Paper as paper
 use Rattle.driver_rules.specs.Paper.{Paper, refused, ticket, openPaper, sendPaper, servicePaper}
-use Rattle.driver_rules.specs.Calls.{soundState, large, openCall, sendCall, serviceCall, Opens, Sends, Services}
+use Rattle.driver_rules.specs.Calls.{soundState, large, openCall, sendCall, serviceCall}
 use Rattle.fits.specs.Agree.{isRefused}
 use Rattle.fits.specs.Order.{statusRead, freeRead}
-use Rattle.fits.specs.When.{looked, Short, Enough, Begun, Open-when, Send-when, Service-when, Refused-exactly-when}
+use Rattle.fits.specs.When.{looked, Short, Begun, Open-when, Send-when, Service-when, Refused-exactly-when}
 use Rattle.fits.proofs.Rows.{number, apart, nowhere, here, here-not, behind, behind-not, last, last-not, said}
-use Rattle.fits.proofs.Needs.{six, ends-short, short-when, spared, one-need}
+use Rattle.fits.proofs.Needs.{six, short-when, spared, one-need}
 use Rattle.fits.proofs.Endless.{endless}
 use Rattle.fits.proofs.Service.{Ways, of-look}
 
@@ -230,10 +226,10 @@ module _ (sound : Bool) (d : Driver) (budget : ℕ) (look frame : List ℕ) (a :
       (λ e. v .0 (w .0 e), λ k. w .1 (v .1 k))
 
   -- behind 1, 13 and 7
-  begun : (says x : Paper) {P : Type 0} → says ≡ service-chain → eqb 1 (number x) ≡ false → eqb 13 (number x) ≡ false → eqb 7 (number x) ≡ false → (begun-says ≡ x ↔ P) → says ≡ x ↔ Begun sound d budget look frame a used P
+  begun : (says x : Paper) {P : Type 0} → says ≡ service-chain → eqb 1 (number x) ≡ false → eqb 13 (number x) ≡ false → eqb 7 (number x) ≡ false → (begun-says ≡ x ↔ P) → says ≡ x ↔ Begun sound d look frame P
   begun says x e h₁ h₁₃ h₇ k = said e (behind-not sound 1 x h₁ (behind-not (d .opened) 13 x h₁₃ (behind-not areas 7 x h₇ k)))
 
-  service-when : (says : Paper) → says ≡ service-chain → Service-when sound d budget look frame a used says
+  service-when : (says : Paper) → says ≡ service-chain → Service-when sound d look frame budget a used says
   service-when says e =
       record {
         refusal-1 = said e (here-not sound 1 (nowhere (not (d .opened)) 13 (refused 1) refl (nowhere (not areas) 7 (refused 1) refl (not-five 1 refl))));

@@ -8,7 +8,7 @@ use lib.ListN.{length}
 use lib.Dec.{ltb}
 use Rattle.card_rules.specs.declared.Card.{Card}
 use Rattle.card_rules.specs.Adapter.{Adapter}
-use Rattle.card_rules.specs.Sound.{sound}
+use Rattle.card_rules.specs.Sound as card
 use Rattle.card_rules.specs.View.{view}
 use Rattle.card_rules.specs.Access.{ReadWord, WriteWord, access}
 use Rattle.driver_rules.specs.declared.Driver.{Driver}
@@ -53,17 +53,20 @@ pub data Needs : Adapter → ℕ → Type 0 where
 abbrev pub Short : ℕ → Adapter → Type 0
 Short budget a = (n : ℕ) → Needs a n → budget < n
 
+-- Budget enough: what the service needs is within it.
 pub record Enough (budget : ℕ) (a : Adapter) : Type 0 where
   pub need : ℕ
   pub needed : Needs a need
-  pub there : need ≤ budget
+  pub within : need ≤ budget
 
--- ---- a row for each number, by what the call says: the number's own test, and none before it in the order
+-- ---- a row for each number that a call says: the number's own test holds, and none before it in the order
 
 module _ (sound : Bool) (d : Driver) where
+  -- not refused 1
   abbrev pub Sound : Type 0 → Type 0
   Sound rest = (sound ≡ true) × rest
 
+  -- .. nor 13
   abbrev pub Ready : Type 0 → Type 0
   Ready rest = Sound ((d .opened ≡ true) × rest)
 
@@ -72,12 +75,15 @@ module _ (sound : Bool) (d : Driver) where
     pub no-other : says ≡ opened ↔ sound ≡ true
 
   module _ (packet : List ℕ) (a : Adapter) where
+    -- .. nor 2
     abbrev pub Sized : Type 0 → Type 0
     Sized rest = Ready ((outside (length packet) ≡ false) × rest)
 
+    -- .. nor 3
     abbrev pub Few : Type 0 → Type 0
     Few rest = Sized ((ltb 15 (d .unreported) ≡ false) × rest)
 
+    -- .. nor 5
     abbrev pub Fit : Type 0 → Type 0
     Fit rest = Few ((unfit (statusRead a) ≡ false) × rest)
 
@@ -90,12 +96,13 @@ module _ (sound : Bool) (d : Driver) where
       pub refusal-4 : says ≡ refused 4 ↔ Fit (lacksRoom (freeRead a) (length packet) ≡ true)
       pub no-other : says ≡ ticket (d .sent) ↔ Fit (lacksRoom (freeRead a) (length packet) ≡ false)
 
-  module _ (budget : ℕ) (look frame : List ℕ) (a : Adapter) (used : ℕ) where
+  module _ (look frame : List ℕ) where
+    -- .. nor 7
     abbrev pub Begun : Type 0 → Type 0
     Begun rest = Ready ((large look frame ≡ true) × rest)
 
-    -- With budget 0, 6 stands in 5's place: nothing needs 0.
-    pub record Service-when (says : Paper) : Type 0 where
+    -- With budget 0, 6 stands in 5's place: a service needs 1 or more.
+    pub record Service-when (budget : ℕ) (a : Adapter) (used : ℕ) (says : Paper) : Type 0 where
       pub refusal-1 : says ≡ refused 1 ↔ sound ≡ false
       pub refusal-13 : says ≡ refused 13 ↔ Sound (d .opened ≡ false)
       pub refusal-7 : says ≡ refused 7 ↔ Ready (large look frame ≡ false)
@@ -114,9 +121,9 @@ pub record Refused-exactly-when : Type 0 where
       → Send-when (soundState c ram dir d) d packet (view c ram dir) (sendPaper (r .answer))
   pub services : (c : Card) (ram dir : List ℕ) (d : Driver) (budget : ℕ) (look frame : List ℕ) (r : Serviced) (ram′ dir′ look′ frame′ : List ℕ)
       → Services c ram dir d budget look frame r ram′ dir′ look′ frame′
-      → Service-when (soundState c ram dir d) d budget look frame (view c ram dir) (r .used) (servicePaper (r .answer) (r .used))
+      → Service-when (soundState c ram dir d) d look frame budget (view c ram dir) (r .used) (servicePaper (r .answer) (r .used))
   -- What a service needs is one number.
   pub one-need : (a : Adapter) (n m : ℕ) → Needs a n → Needs a m → n ≡ m
   -- A receive failure stands, but the Read Zero mask hides it: discards do nothing, and a damaged frame stays the oldest.
-  pub endless : (a : Adapter) → sound a ≡ true → a .id .active ≡ true → a .select .window ≡ 1 → a .rx .receiver .failed ≡ true
+  pub endless : (a : Adapter) → card.sound a ≡ true → a .id .active ≡ true → a .select .window ≡ 1 → a .rx .receiver .failed ≡ true
       → unfit (statusRead a) ≡ false → txComplete (statusRead a) ≡ false → rxComplete (statusRead a) ≡ true → bad (rxRead a) ≡ true → (budget : ℕ) → Short budget a

@@ -1,10 +1,8 @@
 -- The card's half is its test, told and shown; the driver's half is the same on both sides. Assumes nothing.
-use mathlib.Core.Path.{_≡_}
-use mathlib.Core.Bool.{true}
 use Rattle.bits.proofs.Tests.{both, join}
 use Rattle.card_rules.specs.Sound.{sound}
 use Rattle.card_rules.specs.View.{view, soundCard}
-use Rattle.card_rules.proofs.Checked.{card-told, card-shown}
+use Rattle.card_rules.proofs.Checked.{card-shown}
 use Rattle.driver_rules.specs.Driver.{driverSound}
 use Rattle.run_calls.specs.Takes.{Good}
 use Rattle.run_calls.specs.OneTest.{The-one-test-of-soundness}

@@ -170,7 +170,7 @@ unfit-shown : (budget : ℕ) (d : Driver) (a : Adapter) → run (lookTalk budget
 unfolding lookTalk run
 unfit-shown zero d a e = never (sym (ap six e))
 unfit-shown (suc left) d a e =
-    let once : length (run (lookTalk (suc left) d) a .made) ≡ 1 = unfit-at-once (suc left) d a e in
+    let once : length (run (lookTalk (suc left) d) a .made) ≡ 1 = ap length (unfit-at-once (suc left) d a e) in
     let s : ℕ = statusRead a in
     let rest : Quiet (cond (txComplete s) (reportTalk left d) (cond (rxComplete s) (receiveTalk left d) (idleTalk left d))) =
     of-cond Quiet (txComplete s) (quiet-report left d) (of-cond Quiet (rxComplete s) (quiet-receive left d) (quiet-idle left d)) in

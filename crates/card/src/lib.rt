@@ -266,3 +266,14 @@ pub fn seat(ram: &[u8; 8192], dir: &[u16; 1110], c: Card, i: IdState) -> AfterCa
         answer: Done::Done,
     }
 }
+
+// The interrupt line that the card drives: 3, 5, 7, 9, 10, 11, 12 or 15, and 0 for none.
+pub fn interrupt_line(ram: &[u8; 8192], dir: &[u16; 1110], c: Card) -> Read
+    ensures { λ r. ⌜ contract.interrupt-line c (now (ram .entry)) (now (dir .entry)) r ⌝ }
+{
+    if !regs::is_sound(ram, dir, c) {
+        return Read::Refused(Refusal::StateUnsound);
+    }
+    let line = regs::interrupt_line(c);
+    Read::Value(line)
+}

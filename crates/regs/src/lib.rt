@@ -1,12 +1,14 @@
-// The card by value: its registers in groups, the Status word, settle, power-on, and the test of its soundness.
+// The card by value: its registers in groups, the Status word, the interrupt line, settle, power-on, and the test of its soundness.
 ghost use mathlib.Core.Path.{_≡_};
 ghost use mathlib.Core.Bool.{true};
-ghost use Prim.Native.Nat.{_%_, _≤_, _<_};
+ghost use mathlib.Core.List.{List};
+ghost use Prim.Native.Nat.{ℕ, _%_, _≤_, _<_};
 ghost use lib.ListN.{length};
 ghost use Rattle.bits.specs.Bits.{weigh};
 ghost use Rattle.card_rules.specs.Room.{txSize, rxSize};
 ghost use Rattle.receive_rules.specs.View as rx;
 ghost use Rattle.card_rules.specs.Status.{shows, statusOf, statusWord, flags as flagsOf, rises as risesOf, interrupting};
+ghost use Rattle.card_rules.specs.Line.{isLine, interruptLine};
 ghost use Rattle.card_rules.specs.Settle.{settle as settleOf};
 ghost use Rattle.receive_rules.specs.Reading.{rxEmpty};
 ghost use Rattle.card_rules.specs.Power.{powerOn, reset as resetOf};
@@ -26,6 +28,9 @@ use transmit_rules::Transmit;
 
 // The weight of the window in Status: it stands in bits 15 to 13.
 const WINDOW: u16 = 8192;
+
+// The weight of the IRQ field in Resource Configuration: it stands in bits 15 to 12.
+const IRQ: u16 = 4096;
 
 // A TX Available threshold above this one never sets the bit.
 const HIGHEST: u16 = 1792;
@@ -98,6 +103,28 @@ pub fn interrupts(s: Select, f: Flags) -> bool
         | (rises(s, 4, f.completed)
             | (rises(s, 8, f.available)
                 | (rises(s, 16, f.received) | (rises(s, 32, f.early) | rises(s, 64, f.requested)))))
+}
+
+// Whether the IRQ field names a line; any other value disables the drivers.
+fn is_line(irq: u16) -> bool
+    ensures { λ r. ⌜ r ≡ isLine irq ⌝ }
+{
+    (irq == 3)
+        | ((irq == 5)
+            | ((irq == 7)
+                | ((irq == 9) | ((irq == 10) | ((irq == 11) | ((irq == 12) | (irq == 15)))))))
+}
+
+// The interrupt line that the card drives, 0 for none: the latch alone raises no line.
+pub fn interrupt_line(c: Card) -> u16
+    ensures { λ r. ⌜ ((ram dir : List ℕ) → r ≡ interruptLine (view c ram dir)) ⌝ }
+{
+    let irq = c.config.resource / IRQ % 16;
+    let driving = c.config.enabled & (!(c.select.window == 0) & is_line(irq));
+    if c.lines.latch & driving {
+        return irq;
+    }
+    0
 }
 
 // The masks, the window and the filter are in their ranges.

@@ -31,6 +31,14 @@ static void port_out(uint16_t port, uint16_t value, int is_word)
                        : seamtrout_write_byte(&card, port & 0x0F, (uint8_t)value));
 }
 
+/* The interrupt line that the card drives now, 0 for none. */
+static unsigned interrupt_line(void)
+{
+    uint16_t line = 0;
+    (void)seamtrout_interrupt_line(&card, &line);
+    return line;
+}
+
 /* A frame of n bytes, 8 or more, without check bytes, from the network. */
 static void frame_in(const uint8_t *bytes, size_t n)
 {
@@ -43,7 +51,7 @@ static void frame_in(const uint8_t *bytes, size_t n)
 
 int main(void)
 {
-    static const uint16_t words[64] = {0x0020, 0xAFC4, 0x12E5, 0x9050, 0, 0, 0, 0x6D50, 0x0010};
+    static const uint16_t words[64] = {0x0020, 0xAFC4, 0x12E5, 0x9050, 0, 0, 0, 0x6D50, 0x0010, 0xAF00}; /* IRQ 10 */
     uint8_t frame[60] = {0x00, 0x20, 0xAF, 0xC4, 0x12, 0xE5}, out[1792], b = 0xFF;
     size_t i, n;
 
@@ -55,7 +63,9 @@ int main(void)
     for (i = 0; i < 255; i++, b = (uint8_t)(b & 0x80 ? (b << 1) ^ 0xCF : b << 1))
         port_out(0x110, b, 0);
     port_out(0x110, 0xE0 + 0x10, 0);
-    /* .. station address in window 2; window 1, filter, masks, RX Enable, TX Enable .. */
+    /* .. ENA in window 0, for the interrupt drivers; station address in window 2; window 1, filter,
+     * masks, RX Enable, TX Enable .. */
+    port_out(0x304, 1, 1);
     port_out(0x30E, 1 << 11 | 2, 1);
     for (i = 0; i < 6; i++)
         port_out((uint16_t)(0x300 + i), frame[i], 0);
@@ -67,8 +77,9 @@ int main(void)
     port_out(0x30E, 9 << 11, 1);
 
     /* .. a frame comes, the line rises, and the guest reads it. */
+    printf("interrupt line %u, ", interrupt_line());
     frame_in(frame, sizeof frame);
-    printf("interrupt %d, RX Status %04X, ", seamtrout_latch(&card), (unsigned)port_in(0x308, 1));
+    printf("then %u, RX Status %04X, ", interrupt_line(), (unsigned)port_in(0x308, 1));
     printf("first word %04X\n", (unsigned)port_in(0x300, 1));
 
     /* The guest writes a packet of 14 bytes; the network takes it. */

@@ -114,6 +114,7 @@ struct seamtrout_raw_done { struct seamtrout_card card; uint8_t code; };
 struct seamtrout_raw_read { struct seamtrout_card card; uint16_t value; uint8_t code; };
 struct seamtrout_raw_told { struct seamtrout_card card; size_t n; uint8_t code; };
 struct seamtrout_raw_bit { uint8_t bit, code; };
+struct seamtrout_raw_line { uint16_t line; uint8_t code; };
 struct seamtrout_raw_opened { struct seamtrout_card card; struct seamtrout_driver driver; uint8_t code; };
 struct seamtrout_raw_sent { struct seamtrout_card card; struct seamtrout_driver driver; uint16_t ticket; uint8_t code; };
 struct seamtrout_raw_service { uint8_t kind, code; uint16_t ticket, status; size_t n; };
@@ -123,6 +124,7 @@ struct seamtrout_raw_served {
     struct seamtrout_raw_service answer;
     size_t accesses;
 };
+struct seamtrout_raw_part { uint8_t area; size_t n; }; /* the first n bytes of area 1, ahead, or 2, frame */
 struct seamtrout_raw_image { uint16_t node0, node1, node2; uint8_t code; };
 struct seamtrout_raw_bus { struct seamtrout_id cards[8]; size_t count; };
 struct seamtrout_raw_found {
@@ -147,9 +149,11 @@ struct seamtrout_raw_done seamtrout_card_seat(const uint8_t *ram, const uint16_t
 struct seamtrout_raw_done seamtrout_card_id_write(const uint8_t *ram, const uint16_t *dir, struct seamtrout_card c, uint16_t port, uint8_t b);
 struct seamtrout_raw_bit seamtrout_card_id_bit(const uint8_t *ram, const uint16_t *dir, struct seamtrout_card c, uint16_t port);
 struct seamtrout_raw_done seamtrout_card_id_hear(const uint8_t *ram, const uint16_t *dir, struct seamtrout_card c, uint16_t port, uint8_t bus);
+struct seamtrout_raw_line seamtrout_card_interrupt_line(const uint8_t *ram, const uint16_t *dir, struct seamtrout_card c);
 struct seamtrout_raw_opened seamtrout_driver_open(uint8_t *ram, uint16_t *dir, struct seamtrout_card c, struct seamtrout_driver d, uint16_t w0, uint16_t w1, uint16_t w2);
 struct seamtrout_raw_sent seamtrout_driver_send(uint8_t *ram, uint16_t *dir, struct seamtrout_card c, struct seamtrout_driver d, const uint8_t *packet, size_t n);
 struct seamtrout_raw_served seamtrout_driver_service(uint8_t *ram, uint16_t *dir, struct seamtrout_card c, struct seamtrout_driver d, uint16_t budget, uint8_t *ahead, size_t ahead_n, uint8_t *frame, size_t frame_n);
+struct seamtrout_raw_part seamtrout_driver_hand_up(const uint8_t *ahead, size_t ahead_n, const uint8_t *frame, size_t frame_n, size_t n);
 struct seamtrout_raw_image seamtrout_image_checked(const uint8_t *image, size_t n);
 struct seamtrout_raw_found seamtrout_bus_search(struct seamtrout_raw_bus b, uint16_t port);
 struct seamtrout_raw_activated seamtrout_bus_activate(struct seamtrout_raw_bus b, uint16_t port, uint8_t tag, uint8_t base);
@@ -189,6 +193,8 @@ SEAMTROUT_ASSERT(opened_size, sizeof(struct seamtrout_raw_opened) == 272);
 SEAMTROUT_ASSERT(sent_size, sizeof(struct seamtrout_raw_sent) == 280);
 SEAMTROUT_ASSERT(service_size, sizeof(struct seamtrout_raw_service) == 16);
 SEAMTROUT_ASSERT(served_size, sizeof(struct seamtrout_raw_served) == 296);
+SEAMTROUT_ASSERT(line_size, sizeof(struct seamtrout_raw_line) == 4);
+SEAMTROUT_ASSERT(part_size, sizeof(struct seamtrout_raw_part) == 16 && offsetof(struct seamtrout_raw_part, n) == 8);
 SEAMTROUT_ASSERT(image_size, sizeof(struct seamtrout_raw_image) == 8);
 SEAMTROUT_ASSERT(bus_size, sizeof(struct seamtrout_raw_bus) == 1112);
 SEAMTROUT_ASSERT(found_size, sizeof(struct seamtrout_raw_found) == 1192);
@@ -350,10 +356,22 @@ static inline uint8_t seamtrout_base(const struct seamtrout *s)
     return (uint8_t)(s->card.id.address % 32);
 }
 
-/* The Interrupt Latch: what drives the card's interrupt line. */
+/* The Interrupt Latch, bit 0 of Status. It is not the line: ask seamtrout_interrupt_line for that. */
 static inline bool seamtrout_latch(const struct seamtrout *s)
 {
     return s->card.lines.latch;
+}
+
+/* The interrupt line that the card drives: 3, 5, 7, 9, 10, 11, 12 or 15, and 0 for none. The IRQ field
+ * of Resource Configuration names it (EEPROM word 09h, bits 15-12). It is driven while the latch is
+ * set, ENA is (bit 0 of Configuration Control), and a window other than 0 is selected; nothing
+ * changes. (1) */
+static inline int seamtrout_interrupt_line(const struct seamtrout *s, uint16_t *line)
+{
+    struct seamtrout_raw_line r = seamtrout_card_interrupt_line(s->ram, s->dir, s->card);
+    if (!r.code)
+        *line = r.line;
+    return r.code;
 }
 
 /* The driver's open, with the station address as EEPROM words 00h to 02h. (1) */
@@ -396,9 +414,14 @@ static inline int seamtrout_service(struct seamtrout *s, uint16_t budget, uint8_
     answer->kind = (enum seamtrout_kind)r.answer.kind;
     answer->ticket = r.answer.ticket;
     answer->status = r.answer.status;
-    answer->n = r.answer.n;
-    answer->bytes = r.answer.kind != SEAMTROUT_FRAME ? NULL : r.answer.n <= 256 ? look : frame;
+    answer->bytes = NULL;
+    answer->n = 0;
     answer->accesses = r.accesses;
+    if (answer->kind == SEAMTROUT_FRAME) {
+        struct seamtrout_raw_part up = seamtrout_driver_hand_up(look, look_n, frame, frame_n, r.answer.n);
+        answer->bytes = up.area == 1 ? look : frame;
+        answer->n = up.n;
+    }
     return r.answer.code;
 }
 

@@ -177,6 +177,50 @@ static void driver(void)
     EXPECT(seamtrout_write_word(&s, 0x0E, 12 << 11) == 0 && seamtrout_latch(&s));
 }
 
+/* The interrupt line: the latch set and not, ENA set and not, in every window, for every value of the IRQ field. */
+static void interrupt_line(void)
+{
+    static const uint16_t lines[16] = {0, 0, 0, 3, 0, 5, 0, 7, 0, 9, 10, 11, 12, 0, 0, 15};
+    static struct seamtrout s, before;
+    uint16_t words[64], irq, enable, window, line;
+    words_of(words);
+    words[9] = 0xAF00;
+    seamtrout_power_on(&s, words);
+    wake(&s, 0x110);
+    EXPECT(seamtrout_id_write(&s, 0x110, 0xFF) == 0);
+    for (irq = 0; irq < 16; irq++)
+        for (enable = 0; enable < 2; enable++) {
+            EXPECT(seamtrout_write_word(&s, 0x0E, 1 << 11) == 0 && seamtrout_write_word(&s, 0x04, enable) == 0);
+            EXPECT(seamtrout_write_word(&s, 0x08, (uint16_t)(irq << 12)) == 0 && seamtrout_write_word(&s, 0x0E, 1 << 11 | 1) == 0);
+            line = 99;
+            EXPECT(!seamtrout_latch(&s) && seamtrout_interrupt_line(&s, &line) == 0 && line == 0);
+            EXPECT(seamtrout_write_word(&s, 0x0E, 15 << 11 | 0x40) == 0 && seamtrout_write_word(&s, 0x0E, 14 << 11 | 0x40) == 0);
+            EXPECT(seamtrout_write_word(&s, 0x0E, 12 << 11) == 0 && seamtrout_latch(&s));
+            for (window = 0; window < 8; window++) {
+                EXPECT(seamtrout_write_word(&s, 0x0E, (uint16_t)(1 << 11 | window)) == 0);
+                before = s;
+                line = 99;
+                EXPECT(seamtrout_interrupt_line(&s, &line) == 0 && line == (window && enable ? lines[irq] : 0));
+                EXPECT(memcmp(&before, &s, sizeof s) == 0);
+            }
+            EXPECT(seamtrout_write_word(&s, 0x0E, 13 << 11 | 0x41) == 0);
+        }
+}
+
+/* The part handed up lies in the area that its length names; an area too short hands up nothing. */
+static void hand_up(void)
+{
+    static const struct { size_t look_n, n, told; uint8_t area; } rows[] = {
+        {256, 0, 0, 1}, {256, 60, 60, 1}, {256, 255, 255, 1}, {256, 256, 256, 1}, {256, 257, 257, 2},
+        {256, 1514, 1514, 2}, {256, 1515, 0, 2}, {255, 255, 255, 1}, {255, 256, 0, 1}, {0, 14, 0, 1}};
+    static uint8_t look[256], area[1514];
+    size_t i;
+    for (i = 0; i < sizeof rows / sizeof rows[0]; i++) {
+        struct seamtrout_raw_part up = seamtrout_driver_hand_up(look, rows[i].look_n, area, sizeof area, rows[i].n);
+        EXPECT(up.area == rows[i].area && up.n == rows[i].told);
+    }
+}
+
 static void ports(void)
 {
     static struct seamtrout s[9];
@@ -329,6 +373,8 @@ static void unsound(void)
     EXPECT(seamtrout_wire_start(&s, out) == 1 && seamtrout_wire_byte(&s, 0) == 1 && seamtrout_wire_end(&s, true, true) == 1);
     EXPECT(seamtrout_sent(&s, out, &n) == 1 && seamtrout_collided(&s) == 1);
     EXPECT(seamtrout_id_write(&s, 0x100, 0) == 1 && seamtrout_id_read(&s, 0x100, &b) == 1);
+    v = 99;
+    EXPECT(seamtrout_interrupt_line(&s, &v) == 1 && v == 99);
     EXPECT(seamtrout_open(&s, 1, 2, 3) == 1 && seamtrout_send(&s, out, 60, &v) == 1);
     EXPECT(seamtrout_service(&s, 9, look, 256, area, 1514, &a) == 1);
     EXPECT(seamtrout_search(&at, 1, 0x100, found, &n, &n) == 1);
@@ -339,6 +385,8 @@ int main(void)
 {
     layout();
     driver();
+    interrupt_line();
+    hand_up();
     ports();
     images();
     nine();

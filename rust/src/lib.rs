@@ -6,4 +6,4 @@ pub mod model;
 pub mod raw;
 mod wrapper;
 
-pub use wrapper::{activate, image_check, search, Seamtrout, Service};
+pub use wrapper::{activate, hand_up, image_check, search, Seamtrout, Service};

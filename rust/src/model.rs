@@ -521,6 +521,18 @@ impl Card {
         u16::from(self.window) << 13 | u16::from(self.causes()) | u16::from(self.latch)
     }
 
+    /// The interrupt line that the card drives. The manual: "the IRQ drivers are disabled while Window 0 is
+    /// selected", ENA 0 "Disables IRQ drivers", and of the IRQ field's values some "Disable all IRQ line drivers".
+    fn interrupt_line(&self) -> Option<u16> {
+        if !self.latch || self.window == 0 || !self.enabled {
+            return None;
+        }
+        match self.resource >> 12 {
+            0 | 1 | 2 | 4 | 6 | 8 | 13 | 14 => None,
+            line => Some(line),
+        }
+    }
+
     /// A register other than the FIFOs' data; reading it changes nothing.
     fn register(&self, offset: u16) -> u16 {
         match (self.window, offset) {
@@ -978,6 +990,11 @@ impl Model {
 
     pub fn latch(&self) -> bool {
         self.card.latch
+    }
+
+    /// The interrupt line that is driven, 0 for none.
+    pub fn interrupt_line(&self) -> Result<u16, u8> {
+        Ok(self.card.interrupt_line().unwrap_or(0))
     }
 }
 

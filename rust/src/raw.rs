@@ -156,6 +156,12 @@ pub struct Bit {
 }
 
 #[repr(C)]
+pub struct Line {
+    pub line: u16,
+    pub code: u8,
+}
+
+#[repr(C)]
 pub struct Opened {
     pub card: Card,
     pub driver: Driver,
@@ -185,6 +191,12 @@ pub struct Served {
     pub driver: Driver,
     pub answer: Answer,
     pub accesses: usize,
+}
+
+#[repr(C)]
+pub struct Part {
+    pub area: u8,
+    pub n: usize,
 }
 
 #[repr(C)]
@@ -234,6 +246,7 @@ extern "C" {
     pub fn seamtrout_card_id_write(ram: &Ram, dir: &Dir, c: Card, port: u16, b: u8) -> Done;
     pub fn seamtrout_card_id_bit(ram: &Ram, dir: &Dir, c: Card, port: u16) -> Bit;
     pub fn seamtrout_card_id_hear(ram: &Ram, dir: &Dir, c: Card, port: u16, bus: u8) -> Done;
+    pub fn seamtrout_card_interrupt_line(ram: &Ram, dir: &Dir, c: Card) -> Line;
     pub fn seamtrout_driver_open(ram: &mut Ram, dir: &mut Dir, c: Card, d: Driver, w0: u16, w1: u16, w2: u16) -> Opened;
     pub fn seamtrout_driver_send(ram: &mut Ram, dir: &mut Dir, c: Card, d: Driver, packet: *const u8, n: usize) -> Sent;
     pub fn seamtrout_driver_service(
@@ -247,6 +260,7 @@ extern "C" {
         frame: *mut u8,
         frame_n: usize,
     ) -> Served;
+    pub fn seamtrout_driver_hand_up(look: *const u8, look_n: usize, frame: *const u8, frame_n: usize, n: usize) -> Part;
     pub fn seamtrout_image_checked(image: *const u8, n: usize) -> Image;
     pub fn seamtrout_bus_search(b: Bus, port: u16) -> Found;
     pub fn seamtrout_bus_activate(b: Bus, port: u16, tag: u8, base: u8) -> Activated;
@@ -266,6 +280,7 @@ const _: () = {
     assert!(size_of::<Driver>() == 6);
     assert!(size_of::<Done>() == 272 && size_of::<Read>() == 272 && size_of::<Told>() == 280);
     assert!(size_of::<Opened>() == 272 && size_of::<Sent>() == 280 && size_of::<Served>() == 296);
+    assert!(size_of::<Line>() == 4 && size_of::<Part>() == 16 && offset_of!(Part, n) == 8);
     assert!(size_of::<Image>() == 8 && size_of::<Bus>() == 1112);
     assert!(size_of::<Found>() == 1192 && size_of::<Activated>() == 1128);
 };

@@ -170,9 +170,18 @@ impl Seamtrout {
         (self.card.id.address % 32) as u8
     }
 
-    /// The Interrupt Latch.
+    /// The Interrupt Latch. It is not the line: see [`Seamtrout::interrupt_line`].
     pub fn latch(&self) -> bool {
         self.card.lines.latch
+    }
+
+    /// The interrupt line that the card drives, 0 for none.
+    pub fn interrupt_line(&self) -> Result<u16, u8> {
+        let r = unsafe { raw::seamtrout_card_interrupt_line(&self.ram, &self.dir, self.card) };
+        if r.code != 0 {
+            return Err(r.code);
+        }
+        Ok(r.line)
     }
 
     /// The driver's open, with the station address as EEPROM words 00h to 02h.
@@ -229,8 +238,7 @@ impl Seamtrout {
         let answer = match a.kind {
             1 => Service::Report { ticket: a.ticket, status: a.status as u8 },
             2 => Service::Status(a.status as u8),
-            3 if a.n <= 256 => Service::Frame(&look[..a.n]),
-            3 => Service::Frame(&frame[..a.n]),
+            3 => Service::Frame(hand_up(look, frame, a.n)),
             4 => Service::Idle,
             _ => Service::Refused(a.code),
         };
@@ -250,6 +258,13 @@ impl Seamtrout {
         }
         Ok(())
     }
+}
+
+/// The part of the two areas that a frame of `n` bytes was handed up in; empty if its area does not hold `n` bytes.
+pub fn hand_up<'a>(look: &'a [u8], frame: &'a [u8], n: usize) -> &'a [u8] {
+    let up = unsafe { raw::seamtrout_driver_hand_up(look.as_ptr(), look.len(), frame.as_ptr(), frame.len(), n) };
+    let area = if up.area == 1 { look } else { frame };
+    &area[..up.n]
 }
 
 // The cards' ID states as the archive takes them. Every card is tested, a ninth and later one too,

@@ -58,13 +58,16 @@ struct Tally {
     codes: [u64; 8],
     /// Full status stacks.
     full: u64,
+    /// The latch set and the drivers enabled, by the IRQ field; the latch set in window 0, and without ENA.
+    irqs: [u64; 16],
+    disabled: [u64; 2],
 }
 
 impl Tally {
     fn shown(&self) -> String {
         format!(
-            "refusals {:?}, reports {}, statuses {}, frames {:?}, idle {}, codes {:?}, full {}",
-            self.refusals, self.reports, self.statuses, self.frames, self.idle, self.codes, self.full
+            "refusals {:?}, reports {}, statuses {}, frames {:?}, idle {}, codes {:?}, full {}, irqs {:?}, disabled {:?}",
+            self.refusals, self.reports, self.statuses, self.frames, self.idle, self.codes, self.full, self.irqs, self.disabled
         )
     }
 }
@@ -156,8 +159,18 @@ impl Pair {
         both!(self, active());
         both!(self, base());
         both!(self, latch());
+        both!(self, interrupt_line());
         both!(self, read_word(0x0E));
-        self.told.truncate(self.told.len() - 4);
+        self.told.truncate(self.told.len() - 5);
+        let c = self.proved.card();
+        if c.lines.latch {
+            match (c.select.window, c.config.enabled) {
+                (0, true) => self.tally.disabled[0] += 1,
+                (1.., false) => self.tally.disabled[1] += 1,
+                (1.., true) => self.tally.irqs[(c.config.resource >> 12) as usize] += 1,
+                _ => {}
+            }
+        }
     }
 
     fn activate(&mut self) {
@@ -335,6 +348,19 @@ impl Pair {
                 let on = [4, 9, 4, 9, 4, 9, 3, 10, 5, 11, 12][r.below(11) as usize];
                 both!(self, write_word(0x0E, on << 11)).unwrap()
             }
+        }
+    }
+
+    /// ENA and the IRQ field in window 0, and an interrupt asked for in another; back to window 1.
+    fn interrupts(&mut self, r: &mut Random) {
+        let (enable, resource, window) = (r.below(4).min(1) as u16, r.next() as u16, 1 + r.below(7) as u16);
+        both!(self, write_word(0x0E, 1 << 11));
+        both!(self, write_word(0x04, enable));
+        both!(self, write_word(0x08, resource));
+        self.glance();
+        for command in [1 << 11 | window, 15 << 11 | 0xFE, 14 << 11 | 0x40, 12 << 11, 1 << 11 | 1] {
+            both!(self, write_word(0x0E, command));
+            self.glance();
         }
     }
 
@@ -524,6 +550,7 @@ fn sensible_runs() {
                 35 => p.host(&mut r),
                 36 => p.flood(&mut r),
                 37 => p.burst(&mut r),
+                38 => p.interrupts(&mut r),
                 _ => done(both!(p, open(NODE))),
             }
             if p.proved.card().receive.receiver.failed | p.proved.card().transmit.fifo.failed && r.one_in(4) {
@@ -541,6 +568,7 @@ fn sensible_runs() {
     assert!([3, 4, 5, 6, 7, 11].iter().all(|&n| tally.refusals[n] > 0));
     assert!(tally.reports > 0 && tally.statuses > 0 && tally.frames[0] > 0 && tally.frames[1] > 0 && tally.idle > 0 && tally.full > 0);
     assert!([0, 1, 3, 4, 5].iter().all(|&n| tally.codes[n] > 0));
+    assert!(tally.irqs.iter().chain(&tally.disabled).all(|&n| n > 0));
 }
 
 #[test]
@@ -555,6 +583,7 @@ fn hostile_runs() {
                 1 => done(both!(p, open(NODE))),
                 2 => p.frame(&mut r),
                 3 => p.written(&mut r),
+                4 => p.interrupts(&mut r),
                 _ => p.hostile(&mut r),
             }
             p.glance();
@@ -569,6 +598,47 @@ fn hostile_runs() {
     }
     println!("{} calls; {}", tally.calls, tally.shown());
     assert!([2, 5, 6, 7, 11, 12, 13].iter().all(|&n| tally.refusals[n] > 0));
+    assert!(tally.irqs.iter().chain(&tally.disabled).all(|&n| n > 0));
+}
+
+/// The interrupt line in every window, with and without ENA and the latch, for every value of the IRQ field.
+#[test]
+fn interrupt_lines() {
+    for irq in 0..16u16 {
+        let mut words = [0; 64];
+        words[0x09] = irq << 12 | 0x0F00;
+        for (enable, latched, window) in (0..32).map(|n| (n & 1, n & 2 != 0, n >> 2)) {
+            let mut p = Pair::new(words, Tally::default());
+            p.activate();
+            p.glance();
+            both!(p, write_word(0x04, enable));
+            both!(p, write_word(0x0E, 1 << 11 | 7));
+            if latched {
+                for command in [15 << 11 | 0x40, 14 << 11 | 0x40, 12 << 11] {
+                    both!(p, write_word(0x0E, command));
+                }
+            }
+            both!(p, write_word(0x0E, 1 << 11 | window));
+            let driven = both!(p, interrupt_line());
+            let named = [3, 5, 7, 9, 10, 11, 12, 15].contains(&irq);
+            assert_eq!(driven, Ok(if latched && enable == 1 && window != 0 && named { irq } else { 0 }));
+        }
+    }
+}
+
+/// The part handed up: up to 256 bytes of the lookahead area, more of the frame area, and that very place.
+#[test]
+fn parts() {
+    let mut r = Random(number("SEAMTROUT_SEED", 13));
+    let lengths = [0, 1, 60, 255, 256, 257, 258, 1513, 1514, 1515, 2000, usize::MAX];
+    for _ in 0..steps(20_000) {
+        let (look, frame) = (vec![r.byte(); r.below(300) as usize], vec![r.byte(); r.below(1600) as usize]);
+        let n = if r.one_in(2) { r.below(1700) as usize } else { lengths[r.below(12) as usize] };
+        let area = if n <= 256 { &look } else { &frame };
+        let part = if n <= area.len() { &area[..n] } else { &area[..0] };
+        let up = seamtrout::hand_up(&look, &frame, n);
+        assert_eq!((up.as_ptr(), up), (part.as_ptr(), part), "{n} of {} and {}", look.len(), frame.len());
+    }
 }
 
 #[test]
@@ -683,6 +753,7 @@ fn unsound_cards() {
         assert_eq!(c.collided(), Err(1));
         assert_eq!(c.id_write(99, 0), Err(1));
         assert_eq!(c.id_drives(99), Err(1));
+        assert_eq!(c.interrupt_line(), Err(1));
         assert_eq!(c.id_read(99, true), Err(1));
         assert_eq!(c.open(NODE), Err(1));
         assert_eq!(c.send(&[]), Err(1));

@@ -325,6 +325,29 @@ fn masks_and_latch() {
 }
 
 #[test]
+fn interrupt_line() {
+    let mut card = opened();
+    command(&mut card, 14, 0x40);
+    command(&mut card, 12, 0);
+    assert!(card.latch());
+    assert_eq!(card.interrupt_line(), Ok(0)); // ENA is not set
+    in_window(&mut card, 0, |card| {
+        card.write_word(0x04, 1).unwrap();
+        assert_eq!(card.interrupt_line(), Ok(0)); // window 0
+    });
+    assert_eq!(card.interrupt_line(), Ok(3)); // word 09h is 3F00h
+    let lines: Vec<u16> = (0..16)
+        .map(|irq| {
+            in_window(&mut card, 0, |card| card.write_word(0x08, irq << 12 | 0x0F00)).unwrap();
+            card.interrupt_line().unwrap()
+        })
+        .collect();
+    assert_eq!(lines, [0, 0, 0, 3, 0, 5, 0, 7, 0, 9, 10, 11, 12, 0, 0, 15]);
+    command(&mut card, 13, 0x41);
+    assert_eq!(card.interrupt_line(), Ok(0)); // the latch fell
+}
+
+#[test]
 fn commands_by_bytes() {
     let mut card = opened();
     card.write_byte(0x0E, 5).unwrap();

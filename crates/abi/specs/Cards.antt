@@ -18,10 +18,13 @@ use Rattle.card_rules.specs.Calls.{value, done, readReply, doneReply, toldReply
 use Rattle.card_rules.specs.declared.AfterCall.{AfterCall}
 use Rattle.card_rules.specs.declared.AfterRead.{AfterRead}
 use Rattle.card_rules.specs.declared.AfterSuccess.{AfterSuccess}
+use Rattle.card_rules.specs.declared.Read.{Read}
+use Rattle.card_rules.specs.Contracts as contract
 use Rattle.codes.specs.declared.cards.CardDone.{CardDone}
+use Rattle.codes.specs.declared.cards.CardLine.{CardLine}
 use Rattle.codes.specs.declared.cards.CardRead.{CardRead}
 use Rattle.codes.specs.declared.cards.CardTold.{CardTold}
-use Rattle.codes.specs.Codes.{codedDone, codedRead, codedTold}
+use Rattle.codes.specs.Codes.{codedDone, codedRead, codedTold, codedLine}
 
 -- Power-on, whatever the memory.
 abbrev pub PowersOn : List ℕ → Card → Type 0
@@ -68,3 +71,7 @@ Seats c ram dir i r = Steps 1 (idSound i) (event.seat i (view c ram dir)) c ram 
 abbrev pub Succeeds : Card → List ℕ → List ℕ → List ℕ → CardTold → List ℕ → List ℕ → List ℕ → Type 0
 Succeeds c ram dir out r ram′ dir′ out′ =
     (a : AfterSuccess) × ((r ≡ codedTold a) × (Call (judged (soundCard c ram dir) (ready (view c ram dir .tx)) 11) (toldReply (a .answer)) (value (length (toldOf (view c ram dir .tx .queue .packets)))) c (a .card) ram dir ram′ dir′ (event.success (view c ram dir)) × Area (judged (soundCard c ram dir) (ready (view c ram dir .tx)) 11) (toldOf (view c ram dir .tx .queue .packets)) out out′))
+
+-- The interrupt line: the card is not handed back, since it stays as it is.
+abbrev pub Drives : Card → List ℕ → List ℕ → CardLine → Type 0
+Drives c ram dir r = (x : Read) × ((r ≡ codedLine x) × contract.interrupt-line c ram dir x)

@@ -2,6 +2,7 @@
 ghost use Rattle.abi.specs.Cards as says;
 use card_rules::Card;
 use codes::CardDone;
+use codes::CardLine;
 use codes::CardRead;
 use codes::CardTold;
 use port_rules::IdState;
@@ -156,4 +157,17 @@ pub extern "C" fn seamtrout_card_seat(
 {
     let x = card::seat(ram, dir, c, i);
     codes::coded_done(x)
+}
+
+// The interrupt line that the card drives, 0 for none.
+#[no_mangle]
+pub extern "C" fn seamtrout_card_interrupt_line(
+    ram: &[u8; 8192],
+    dir: &[u16; 1110],
+    c: Card,
+) -> CardLine
+    ensures { λ r. ⌜ says.Drives c (now (ram .entry)) (now (dir .entry)) r ⌝ }
+{
+    let x = card::interrupt_line(ram, dir, c);
+    codes::coded_line(x)
 }

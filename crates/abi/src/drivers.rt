@@ -4,6 +4,7 @@ use card_rules::Card;
 use codes::DriverDone;
 use codes::DriverSent;
 use codes::DriverServed;
+use codes::HandedUp;
 use driver_rules::Driver;
 
 // Open, with the address as words 00h-02h.
@@ -53,4 +54,18 @@ pub extern "C" fn seamtrout_driver_service(
 {
     let x = driver::service(ram, dir, c, d, budget, ahead, frame);
     codes::coded_served(x)
+}
+
+// The part of the areas that a frame of n bytes was handed up in; empty if its area does not hold n bytes.
+// An exported function cannot return a reference, so it tells where the part lies.
+#[no_mangle]
+pub extern "C" fn seamtrout_driver_hand_up<'a>(
+    ahead: &'a [u8],
+    frame: &'a [u8],
+    n: usize,
+) -> HandedUp
+    ensures { λ r. ⌜ says.HandsUp (ahead .entry) (frame .entry) n r ⌝ }
+{
+    let part = driver::hand_up(ahead, frame, n);
+    codes::coded_part(n, part.len())
 }

@@ -26,7 +26,9 @@ use Rattle.driver_rules.specs.declared.Sent.{Sent}
 use Rattle.driver_rules.specs.declared.Answer.{Answer}
 use Rattle.driver_rules.specs.declared.Answer.the-variants as serving
 use Rattle.driver_rules.specs.declared.Serviced.{Serviced}
+use Rattle.driver_rules.specs.HandUp.{area as areaOf}
 use Rattle.codes.specs.declared.cards.CardDone.{CardDone}
+use Rattle.codes.specs.declared.cards.CardLine.{CardLine}
 use Rattle.codes.specs.declared.cards.CardRead.{CardRead}
 use Rattle.codes.specs.declared.cards.CardTold.{CardTold}
 use Rattle.codes.specs.declared.ports.BusFound.{BusFound}
@@ -35,6 +37,7 @@ use Rattle.codes.specs.declared.drivers.DriverDone.{DriverDone}
 use Rattle.codes.specs.declared.drivers.DriverSent.{DriverSent}
 use Rattle.codes.specs.declared.drivers.DriverServed.{DriverServed}
 use Rattle.codes.specs.declared.drivers.Service.{Service}
+use Rattle.codes.specs.declared.drivers.HandedUp.{HandedUp}
 use Rattle.codes.specs.declared.images.ImageChecked.{ImageChecked}
 
 -- ---- the card
@@ -67,6 +70,9 @@ toldCount (told.Refused why) = 0
 
 abbrev pub codedTold : AfterSuccess → CardTold
 codedTold x = record { card = x .card; n = toldCount (x .answer); code = toldCode (x .answer) }
+
+abbrev pub codedLine : Read → CardLine
+codedLine x = record { line = readValue x; code = readCode x }
 
 -- ---- several cards on one ID port
 
@@ -126,6 +132,10 @@ serviceTold (serving.Refused why) = record { kind = 0; code = numberOf why; tick
 
 abbrev pub codedServed : Serviced → DriverServed
 codedServed x = record { card = x .card; driver = x .driver; answer = serviceTold (x .answer); accesses = x .used }
+
+-- The part that a frame of n bytes is handed up in: 1 the lookahead area or 2 the frame area, and its length.
+abbrev pub codedPart : ℕ → ℕ → HandedUp
+codedPart n len = record { area = areaOf n 1 2; n = len }
 
 -- ---- the image check
 

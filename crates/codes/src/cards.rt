@@ -1,6 +1,6 @@
 // The card's answers in numbers.
 ghost use mathlib.Core.Path.{_≡_};
-ghost use Rattle.codes.specs.Codes.{doneCode, readCode, readValue, toldCode, toldCount, codedDone, codedRead, codedTold};
+ghost use Rattle.codes.specs.Codes.{doneCode, readCode, readValue, toldCode, toldCount, codedDone, codedRead, codedTold, codedLine};
 use card_rules::AfterCall;
 use card_rules::AfterRead;
 use card_rules::AfterSuccess;
@@ -29,6 +29,13 @@ pub struct CardRead {
 pub struct CardTold {
     pub card: Card,
     pub n: usize,
+    pub code: u8,
+}
+
+// The interrupt line that the card drives, 0 for none, and the code.
+#[repr(C)]
+pub struct CardLine {
+    pub line: u16,
     pub code: u8,
 }
 
@@ -113,6 +120,17 @@ pub fn coded_told(x: AfterSuccess) -> CardTold
     CardTold {
         card: card,
         n: n,
+        code: code,
+    }
+}
+
+pub fn coded_line(x: Read) -> CardLine
+    ensures { λ r. ⌜ r ≡ codedLine x ⌝ }
+{
+    let line = read_value(x);
+    let code = read_code(x);
+    CardLine {
+        line: line,
         code: code,
     }
 }

@@ -1,7 +1,7 @@
 // The driver's answers in numbers.
 ghost use mathlib.Core.Path.{_≡_};
 ghost use Rattle.refusal.specs.Number.{numberOf};
-ghost use Rattle.codes.specs.Codes.{openCode, codedOpened, sendCode, sendTicket, codedSent, serviceTold, codedServed};
+ghost use Rattle.codes.specs.Codes.{openCode, codedOpened, sendCode, sendTicket, codedSent, serviceTold, codedServed, codedPart};
 use card_rules::Card;
 use driver_rules::Answer;
 use driver_rules::Driver;
@@ -46,6 +46,13 @@ pub struct DriverServed {
     pub driver: Driver,
     pub answer: Service,
     pub accesses: usize,
+}
+
+// Where the part that is handed up lies: the area that it is the front of, 1 the lookahead area and 2 the frame area, and its length.
+#[repr(C)]
+pub struct HandedUp {
+    pub area: u8,
+    pub n: usize,
 }
 
 fn open_code(a: OpenAnswer) -> u8
@@ -169,4 +176,14 @@ pub fn coded_served(x: Serviced) -> DriverServed
         answer: told,
         accesses: accesses,
     }
+}
+
+// The part of `len` bytes that a frame of n bytes is handed up in.
+pub fn coded_part(n: usize, len: usize) -> HandedUp
+    ensures { λ r. ⌜ r ≡ codedPart n len ⌝ }
+{
+    if n <= items::sizes::LOOKAHEAD_AREA {
+        return HandedUp { area: 1, n: len };
+    }
+    HandedUp { area: 2, n: len }
 }

@@ -7,15 +7,19 @@ pub mod images; // images.rt: the answer of the image check
 pub mod ports; // ports.rt: the answers of the search and of an activation
 
 pub use cards::CardDone;
+pub use cards::CardLine;
 pub use cards::CardRead;
 pub use cards::CardTold;
 pub use cards::coded_done;
+pub use cards::coded_line;
 pub use cards::coded_read;
 pub use cards::coded_told;
 pub use drivers::DriverDone;
 pub use drivers::DriverSent;
 pub use drivers::DriverServed;
+pub use drivers::HandedUp;
 pub use drivers::coded_opened;
+pub use drivers::coded_part;
 pub use drivers::coded_sent;
 pub use drivers::coded_served;
 pub use images::ImageChecked;

@@ -321,11 +321,11 @@ static inline int seamtrout_id_drives(const struct seamtrout *s, uint16_t port, 
     return r.code;
 }
 
-/* The ID port was read and the bus carried `bus`, the and of what all its cards drive: a card that
- * drove the other bit leaves the contention. (1, 12) */
+/* The ID port was read and the bus carried `bus` (0, or else 1), the and of what all its cards drive: a
+ * card that drove the other bit leaves the contention. (1, 12) */
 static inline int seamtrout_id_hears(struct seamtrout *s, uint16_t port, uint8_t bus)
 {
-    struct seamtrout_raw_done r = seamtrout_card_id_hear(s->ram, s->dir, s->card, port, (uint8_t)(bus & 1));
+    struct seamtrout_raw_done r = seamtrout_card_id_hear(s->ram, s->dir, s->card, port, bus);
     if (!r.code)
         s->card = r.card;
     return r.code;

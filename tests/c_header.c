@@ -260,6 +260,12 @@ static void ports(void)
     EXPECT(s[0].card.id.command && !s[1].card.id.command);
     EXPECT(seamtrout_id_read(&s[0], 0x120, &bit) == 0 && bit == 1);
     EXPECT(seamtrout_id_read(&s[1], 0x120, &bit) == 0 && bit == 1);
+
+    /* A bus of 2 is a 1: the card that drives a 1 stays. */
+    seamtrout_power_on(&s[1], words);
+    wake(&s[1], 0x120);
+    EXPECT(seamtrout_id_write(&s[1], 0x120, 0x82) == 0 && seamtrout_id_hears(&s[1], 0x120, 2) == 0);
+    EXPECT(s[1].card.id.command && s[1].card.id.shift == 0x8000);
 }
 
 static void images(void)

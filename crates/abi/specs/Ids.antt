@@ -2,7 +2,7 @@
 use mathlib.Core.Path.{_≡_}
 use mathlib.Core.Bool.{cond}
 use mathlib.Core.List.{List}
-use Prim.Native.Nat.{ℕ}
+use Prim.Native.Nat.{ℕ, min}
 use Rattle.port_rules.specs.declared.IdState.{IdState}
 use Rattle.port_rules.specs.Card.{idWrite, idBit, idAfterRead}
 use Rattle.card_rules.specs.declared.Card.{Card}
@@ -24,8 +24,12 @@ pub record Seated (number : ℕ) (i : IdState) (c : Card) (ram dir : List ℕ) (
 abbrev pub Writes : Card → List ℕ → List ℕ → ℕ → ℕ → CardDone → Type 0
 Writes c ram dir port byte r = Seated (refusal c ram dir port) (idWrite (c .id) (digitOf port) byte) c ram dir r
 
+-- A bit as C hands it in: 0, or else 1.
+abbrev pub asBit : ℕ → ℕ
+asBit bus = min bus 1
+
 abbrev pub Hears : Card → List ℕ → List ℕ → ℕ → ℕ → CardDone → Type 0
-Hears c ram dir port bus r = Seated (refusal c ram dir port) (idAfterRead (c .id) (digitOf port) bus) c ram dir r
+Hears c ram dir port bus r = Seated (refusal c ram dir port) (idAfterRead (c .id) (digitOf port) (asBit bus)) c ram dir r
 
 -- The bit driven, or the refusal and 0.
 unfoldable pub bitOf : Card → List ℕ → List ℕ → ℕ → CardBit

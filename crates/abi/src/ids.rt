@@ -67,6 +67,16 @@ pub extern "C" fn seamtrout_card_id_bit(
     CardBit { bit: bit, code: 0 }
 }
 
+// A bit as C hands it in: 0, or else 1.
+fn as_bit(bus: u8) -> u8
+    ensures { λ r. ⌜ r ≡ says.asBit bus ⌝ }
+{
+    if bus == 0 {
+        return 0;
+    }
+    1
+}
+
 // The port was read, and the bus carried `bus` (0, or else 1): this card's part in the contention.
 #[no_mangle]
 pub extern "C" fn seamtrout_card_id_hear(
@@ -78,6 +88,6 @@ pub extern "C" fn seamtrout_card_id_hear(
 ) -> CardDone
     ensures { λ r. ⌜ says.Hears c (now (ram .entry)) (now (dir .entry)) port bus r ⌝ }
 {
-    let i = idport::heard(c.id, port, bus);
+    let i = idport::heard(c.id, port, as_bit(bus));
     seated(ram, dir, c, port, i)
 }

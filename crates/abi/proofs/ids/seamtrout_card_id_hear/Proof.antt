@@ -9,7 +9,7 @@ seated-requires : tie.Need-seated-requires
 seated-requires c κs = hear-sound _ _ _ _ (c .heard .ensures)
 
 returns : tie.Need-returns
-returns c = rw (← c .before .heard .ensures) (c .seated .ensures)
+returns c = rw (← c .before .before .as-bit .ensures, ← c .before .heard .ensures) (c .seated .ensures)
 
 pub seamtrout-card-id-hear-spec : {M : Type 1} → statement M
-seamtrout-card-id-hear-spec = tie.close (tie.spec (λ c κs. search needs) seated-requires returns)
+seamtrout-card-id-hear-spec = tie.close (tie.spec (λ c κs. search needs) (λ c κs. search needs) seated-requires returns)

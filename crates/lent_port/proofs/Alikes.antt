@@ -12,7 +12,7 @@ use Rattle.port_rules.specs.declared.IdState.{IdState}
 use Rattle.port_rules.specs.declared.Bus.{Bus}
 use Rattle.port_rules.specs.Port.{held, rest}
 use Rattle.port_rules.specs.Calls.{told, padded, Outcome, allSound, allowed, naming, digitOf, refusing, judged}
-use Rattle.port.proofs.Outcomes.{unsound, outside, goes}
+use Rattle.lent_port.proofs.Outcomes.{unsound, outside, goes}
 use Rattle.port_rules.specs.Lent.{lent, Alike, The-same-as-by-value}
 use Rattle.lent_port.proofs.Slices.{held-lent, unsound-lent, outside-lent, goes-lent, Talked, over, writing, reading, searching, activating}
 
@@ -48,7 +48,7 @@ module _ (t : Talked) (b : Bus) (room : b .count ≤ length (b .cards)) where
   alike : (ok k : Bool) → ok ≡ k → Alike (judged b ok (over t b)) (judged (lent (held b)) k (over t (lent (held b))))
   alike ok k e = alike-at refl (ap (λ (x : Bool). judged (lent (held b)) x (over t (lent (held b)))) e) (by-tests (allSound (held b)) ok refl)
 
-allowed-same : (b : Bus) (port : ℕ) → b .count ≤ length (b .cards) → allowed b port ≡ allowed (lent (held b)) port
+pub allowed-same : (b : Bus) (port : ℕ) → b .count ≤ length (b .cards) → allowed b port ≡ allowed (lent (held b)) port
 unfolding allowed
 allowed-same b port room = ap (λ (n : ℕ). eqb (port % 16) 0 && eqb (port / 256) 1 && leb n 8) (sym (many b room))
 

@@ -20,7 +20,7 @@ use Rattle.port_rules.specs.Port.{held, rest}
 use Rattle.port_rules.specs.Calls.{refused, told, Outcome, foundOf, activatedOf, padded, allSound, allowed, naming, digitOf, refusing, judged, findsCards, activatesCard}
 use Rattle.port_rules.proofs.Cards.{sound-turn}
 use Rattle.bits.proofs.Tests.{both}
-use Rattle.port.proofs.Outcomes.{outside, goes, few}
+use Rattle.lent_port.proofs.Outcomes.{outside, goes, few}
 use Rattle.port_rules.specs.declared.Listed.{Listed}
 use Rattle.lent_port.specs.declared.seats.Taken.{Taken}
 use Rattle.lent_port.specs.Steps.{emptied, takenWith, foundIn, activatedIn, seatOf}

@@ -11,6 +11,10 @@ use port_rules::IdState;
 use port_rules::Listed;
 use port_rules::Wrote;
 
+mod access;
+mod by_value;
+mod checks;
+mod host;
 mod look; // look.rt: a look at one card, and one card stepped
 mod seats; // seats.rt: one card taken in or put back
 

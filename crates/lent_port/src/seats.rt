@@ -2,11 +2,11 @@
 ghost use mathlib.Core.Path.{_≡_};
 ghost use Rattle.port_rules.specs.Calls.{foundOf, activatedOf};
 ghost use Rattle.lent_port.specs.Steps.{emptied, joinedTo, takenWith, foundIn, activatedIn, seatOf};
+use crate::by_value::activate_card;
+use crate::by_value::find_cards;
 use crate::look::one_more;
 use idport::fresh;
 use idport::id_sound;
-use port::activate_card;
-use port::find_cards;
 use port_rules::Activation;
 use port_rules::AfterActivation;
 use port_rules::AfterSearch;

@@ -1,4 +1,3 @@
--- Laws of the accesses and of what the calls answer.
-mod Accesses
-mod Finish
-pub mod Outcomes
+--
+pub mod LentPart
+pub mod Lender

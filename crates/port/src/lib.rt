@@ -1,4 +1,10 @@
-// The cards on one ID port: a byte written, the port read, the search and the activation of a found card.
+// The cards on one ID port, as a bus by value: a byte written, the port read, the search and the activation of a found card.
+// Each call lends the cards that are there to the call of its name over a slice (crate `lent_port`), which tests and steps them; a refused call returns the bus as it came.
+ghost use mathlib.Core.Path.{_≡_};
+ghost use mathlib.Core.Bool.{cond};
+ghost use Rattle.refusal.specs.Number.{numberOf};
+ghost use Rattle.port_rules.specs.Port.{held};
+ghost use Rattle.port_rules.specs.Calls.{allSound};
 ghost use Rattle.port_rules.specs.Contracts as contract;
 use port_rules::Activation;
 use port_rules::AfterActivation;
@@ -8,36 +14,34 @@ use port_rules::AfterWrite;
 use port_rules::Bit;
 use port_rules::Bus;
 use port_rules::Found;
-use port_rules::IdState;
 use port_rules::Wrote;
 use refusal::Refusal;
-// Each call tests the cards and its arguments first, in document 01's order, and a refused call returns the bus as it came.
 
-mod access;
-mod checks;
-mod host;
+mod lend; // lend.rt: the cards that are there, lent as a slice
+
+// Why a bus that counts more cards than its eight places is refused: one of the eight is unsound, else the count is outside.
+fn too_many(b: Bus) -> Refusal
+    ensures { λ r. ⌜ numberOf r ≡ cond (allSound (held b)) 12 1 ⌝ }
+{
+    let cards = b.cards;
+    let n = b.count;
+    if idport::all_sound(cards, n) {
+        return Refusal::ArgumentOutside;
+    }
+    Refusal::StateUnsound
+}
 
 // A byte written to the port, which each card sees. A port is its I/O address, 100h to 1F0h.
 pub fn port_write(b: Bus, port: u16, byte: u8) -> AfterWrite
     ensures { λ r. ⌜ contract.port-write b port byte r ⌝ }
 {
-    if !checks::all_sound(b) {
-        return AfterWrite {
-            bus: b,
-            answer: Wrote::Refused(Refusal::StateUnsound),
-        };
+    if b.count <= 8 {
+        return lend::write(b, port, byte);
     }
-    if !checks::allowed(b, port) {
-        return AfterWrite {
-            bus: b,
-            answer: Wrote::Refused(Refusal::ArgumentOutside),
-        };
-    }
-    let x = idport::digit(port);
-    let after = access::write(b, x, byte);
+    let why = too_many(b);
     AfterWrite {
-        bus: after,
-        answer: Wrote::Done,
+        bus: b,
+        answer: Wrote::Refused(why),
     }
 }
 
@@ -45,25 +49,13 @@ pub fn port_write(b: Bus, port: u16, byte: u8) -> AfterWrite
 pub fn port_read(b: Bus, port: u16) -> AfterRead
     ensures { λ r. ⌜ contract.port-read b port r ⌝ }
 {
-    if !checks::all_sound(b) {
-        return AfterRead {
-            bus: b,
-            answer: Bit::Refused(Refusal::StateUnsound),
-        };
+    if b.count <= 8 {
+        return lend::read(b, port);
     }
-    if !checks::allowed(b, port) {
-        return AfterRead {
-            bus: b,
-            answer: Bit::Refused(Refusal::ArgumentOutside),
-        };
-    }
-    let x = idport::digit(port);
-    let heard = access::read(b, x);
-    let after = heard.bus;
-    let bit = heard.bit;
+    let why = too_many(b);
     AfterRead {
-        bus: after,
-        answer: Bit::Value(bit),
+        bus: b,
+        answer: Bit::Refused(why),
     }
 }
 
@@ -71,33 +63,14 @@ pub fn port_read(b: Bus, port: u16) -> AfterRead
 pub fn find_cards(b: Bus, port: u16) -> AfterSearch
     ensures { λ r. ⌜ contract.find-cards b port r ⌝ }
 {
-    if !checks::all_sound(b) {
-        return AfterSearch {
-            bus: b,
-            answer: Found::Refused(Refusal::StateUnsound),
-            addresses: [0; 7],
-        };
+    if b.count <= 8 {
+        return lend::find(b, port);
     }
-    if !checks::allowed(b, port) {
-        return AfterSearch {
-            bus: b,
-            answer: Found::Refused(Refusal::ArgumentOutside),
-            addresses: [0; 7],
-        };
-    }
-    let x = idport::digit(port);
-    let f = host::search(b, x);
-    let after = f.bus;
-    let addresses = f.addresses;
-    let count = f.count;
-    let accesses = f.accesses;
+    let why = too_many(b);
     AfterSearch {
-        bus: after,
-        answer: Found::Cards {
-            count: count,
-            accesses: accesses,
-        },
-        addresses: addresses,
+        bus: b,
+        answer: Found::Refused(why),
+        addresses: [0; 7],
     }
 }
 
@@ -105,24 +78,12 @@ pub fn find_cards(b: Bus, port: u16) -> AfterSearch
 pub fn activate_card(b: Bus, port: u16, tag: u8, base: u8) -> AfterActivation
     ensures { λ r. ⌜ contract.activate-card b port tag base r ⌝ }
 {
-    if !checks::all_sound(b) {
-        return AfterActivation {
-            bus: b,
-            answer: Activation::Refused(Refusal::StateUnsound),
-        };
+    if b.count <= 8 {
+        return lend::activate(b, port, tag, base);
     }
-    let fit = checks::allowed(b, port);
-    let named = idport::names(tag, base);
-    if !(fit & named) {
-        return AfterActivation {
-            bus: b,
-            answer: Activation::Refused(Refusal::ArgumentOutside),
-        };
-    }
-    let x = idport::digit(port);
-    let after = host::activate(b, x, tag, base);
+    let why = too_many(b);
     AfterActivation {
-        bus: after,
-        answer: Activation::Done { accesses: 259 },
+        bus: b,
+        answer: Activation::Refused(why),
     }
 }

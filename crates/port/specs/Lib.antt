@@ -1,2 +1,0 @@
--- What the proofs of the accesses cite.
-pub mod Held

@@ -16,7 +16,8 @@ use Rattle.port_rules.specs.Port.{Talk}
 use Rattle.port_rules.specs.Search.{puts, idBytes, callUp}
 use Rattle.found.specs.Theorems.{All}
 use Rattle.port_rules.specs.Leads.{Leads}
-use Rattle.found.proofs.Run.{writes-all, wrote, map-eq}
+use Rattle.found.proofs.Run.{writes-all, map-eq}
+use Rattle.found.specs.OneCard.{wrote}
 
 pub nonzero : (i : ℕ) → i < 255 → idByte i ≡ 0 → ⊥
 nonzero = the-sequence .nonzero
@@ -66,7 +67,7 @@ zeros p s h = go (s .command) refl
     go false e = rw (zeroed p s e) (zeroed p (listening p 0 s) refl)
     go true e = rw (roused p s e (h e)) (zeroed p (out (s .shift) s) refl)
 
-called : (p : ℕ) (s : IdState) → (s .command ≡ true → s .port ≡ p) → wrote p (idBytes 0 255) (idWrite (idWrite s p 0) p 0) ≡ obeying p (s .tag) (s .shift) s
+pub called : (p : ℕ) (s : IdState) → (s .command ≡ true → s .port ≡ p) → wrote p (idBytes 0 255) (idWrite (idWrite s p 0) p 0) ≡ obeying p (s .tag) (s .shift) s
 called p s h = rw (zeros p s h) (sequenced p 254 0 s refl)
 
 pub idBytes-length : (n i : ℕ) → length (idBytes i n) ≡ n

@@ -13,13 +13,10 @@ use Rattle.port_rules.specs.Card.{idDrives, idBit, idAfterRead, loaded}
 use Rattle.port_rules.specs.Port.{Talk, read, after, value, portBit, portRead}
 use Rattle.port_rules.specs.Search.{bits}
 use Rattle.found.specs.Theorems.{All}
+use Rattle.found.specs.OneCard.{shl, heard}
 use Rattle.port_rules.specs.Leads.{Leads, on, stay, step}
 use Rattle.found.proofs.Run.{map-map, map-eq, map-same, all-map}
 use Rattle.found.proofs.Called.{out}
-
--- a card's register after a shift
-abbrev shl : ℕ → ℕ
-shl w = w * 2 % 65536
 
 -- a read, for a card that drives the bus's bit, one that does not, and one that is mute
 won : (p b : ℕ) (s : IdState) → idDrives s p ≡ true → b ≡ s .shift / 32768 → idAfterRead s p b ≡ loaded (shl (s .shift)) s
@@ -102,11 +99,7 @@ above-on p m s h a = go (idDrives s p) refl (eqb (m / 32768) (s .shift / 32768))
     go true d true e = let b : m / 32768 ≡ s .shift / 32768 = eqb-true _ _ e in rw (won p (m / 32768) s d b) (λ t. omega (arith, a d))
     go true d false e = rw (lost p (m / 32768) s d (eqb-false _ _ e)) (λ t. absurd (false≢true (sym (out-mute p (shl (s .shift)) s) ∙ t)))
 
--- what n bits of m make of a card, and of the number read so far
-unfoldable pub heard : ℕ → ℕ → ℕ → IdState → IdState
-heard p zero m s = s
-heard p (suc n) m s = heard p n (shl m) (idAfterRead s p (m / 32768))
-
+-- what n bits of m make of the number read so far
 unfoldable pub number : ℕ → ℕ → ℕ → ℕ
 number zero m a = a
 number (suc n) m a = number n (shl m) (a * 2 + m / 32768)

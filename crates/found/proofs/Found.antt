@@ -23,7 +23,7 @@ use Rattle.found.proofs.Rounds.{untagged, Finds, finds, newTag, costs}
 cleared : ℕ → IdState → IdState
 cleared p s = obeying p 0 (s .shift) s
 
-clears : (p t w : ℕ) (s : IdState) → idWrite (obeying p t w s) p 208 ≡ obeying p 0 w s
+pub clears : (p t w : ℕ) (s : IdState) → idWrite (obeying p t w s) p 208 ≡ obeying p 0 w s
 unfolding idWrite idCommand
 clears p t w s = rw (eq-eqb p p refl)
 

@@ -12,14 +12,25 @@ use Rattle.port_rules.specs.declared.IdState.{IdState}
 use Rattle.port_rules.specs.Card.{idWrite, idWait, idCommand, idDrives}
 use Rattle.port_rules.specs.Port.{Talk}
 use Rattle.port_rules.specs.Search.{put, bits, callUp, readAddress, allOnes}
-use Rattle.found.specs.Theorems.{All, wordAt, station, keeping, Findable}
+use Rattle.found.specs.Theorems.{All, wordAt, station, keeping, Here, Findable}
 use Rattle.port_rules.specs.Leads.{Leads, on}
 use Rattle.found.proofs.Run.{writes, map-map, all-map}
 use Rattle.found.proofs.Called.{obeying, out, calls}
-use Rattle.found.proofs.Contend.{Some, some-map, Drives, Above, Mute, heard, reads, reads-ones, ones, sixteen, heard-mute, heard-same, heard-other, out-mute}
+use Rattle.found.proofs.Contend.{Some, some-map, Drives, Above, Mute, reads, reads-ones, ones, sixteen, heard-mute, heard-same, heard-other, out-mute}
+use Rattle.found.specs.OneCard.{heard}
+
+-- what a round asks of a card: 16 bits a word, and that it is not in ID_CMD at another port
+pub record Readable (p : ℕ) (s : IdState) : Type 0 where
+  pub fits0 : wordAt 0 s < 65536
+  pub fits1 : wordAt 1 s < 65536
+  pub fits2 : wordAt 2 s < 65536
+  pub here : Here p s
+
+pub readable : (p : ℕ) (s : IdState) → Findable p s → Readable p s
+readable p s f = record { fits0 = f .fits0; fits1 = f .fits1; fits2 = f .fits2; here = f .here }
 
 -- commands to a card in ID_CMD: a read command, a tag where there is none, a tag where there is one; and to a card that is out
-asked : (p t w j : ℕ) (s : IdState) → j < 64 → idWrite (obeying p t w s) p (128 + j) ≡ obeying p t (wordAt j s) s
+pub asked : (p t w j : ℕ) (s : IdState) → j < 64 → idWrite (obeying p t w s) p (128 + j) ≡ obeying p t (wordAt j s) s
 unfolding idWrite idCommand
 asked p t w j s h =
     let e : 128 + j - 128 ≡ j = omega arith in
@@ -40,7 +51,7 @@ pub deaf : (p w x : ℕ) (s : IdState) → p < 16 → (x ≡ 0 → ⊥) → idWr
 unfolding idWrite idWait
 deaf p w x s h n = rw (ne-eqb x 0 n, ne-eqb p 16 (omega arith))
 
-obeying-drives : (p t w : ℕ) (s : IdState) → idDrives (obeying p t w s) p ≡ eqb t 0
+pub obeying-drives : (p t w : ℕ) (s : IdState) → idDrives (obeying p t w s) p ≡ eqb t 0
 unfolding idDrives
 obeying-drives p t w s = rw (eq-eqb p p refl)
 
@@ -105,7 +116,7 @@ word p j m k G P f p< j< m< now w< l cs g some =
 
 -- The round. c is the untagged card with the least station; what is known of each card; what it agrees with c in; and what becomes of it
 abbrev pub Rival : ℕ → IdState → IdState → Type 0
-Rival p c s = Findable p s × (s .tag ≡ 0 → station c ≤ station s)
+Rival p c s = Readable p s × (s .tag ≡ 0 → station c ≤ station s)
 
 abbrev pub agrees1 : IdState → IdState → Type 0
 agrees1 c s = Unit {0} × (wordAt 0 s ≡ wordAt 0 c)
@@ -132,14 +143,14 @@ now0 p s = go (eqb (s .tag) 0) refl
     go true e = stands (eqb-true _ _ e) tt (s .shift) refl
     go false e = tagged (eqb-false _ _ e) (s .shift) refl
 
-module _ (p : ℕ) (c : IdState) (p< : p < 16) (fc : Findable p c) (free : c .tag ≡ 0) where
-  now1 : (s : IdState) → Findable p s → Now p (agrees1 c s) s (contended p 0 c (called p s))
+module _ (p : ℕ) (c : IdState) (p< : p < 16) (fc : Readable p c) (free : c .tag ≡ 0) where
+  now1 : (s : IdState) → Readable p s → Now p (agrees1 c s) s (contended p 0 c (called p s))
   now1 s f = now-on p 0 (wordAt 0 c) (Unit {0}) s (called p s) p< (omega arith) (f .fits0) (fc .fits0) (now0 p s)
 
-  now2 : (s : IdState) → Findable p s → Now p (agrees2 c s) s (contended p 1 c (contended p 0 c (called p s)))
+  now2 : (s : IdState) → Readable p s → Now p (agrees2 c s) s (contended p 1 c (contended p 0 c (called p s)))
   now2 s f = now-on p 1 (wordAt 1 c) (agrees1 c s) s (contended p 0 c (called p s)) p< (omega arith) (f .fits1) (fc .fits1) (now1 s f)
 
-  pub now3 : (s : IdState) → Findable p s → Now p (agrees3 c s) s (judged p c s)
+  pub now3 : (s : IdState) → Readable p s → Now p (agrees3 c s) s (judged p c s)
   now3 s f = now-on p 2 (wordAt 2 c) (agrees2 c s) s (contended p 1 c (contended p 0 c (called p s))) p< (omega arith) (f .fits2) (fc .fits2) (now2 s f)
 
   own : Rival p c c
@@ -180,11 +191,11 @@ nobody p j w k cs j< t =
     let one = writes p (128 + j) (bits 16 0 k) (λ s. obeying p (s .tag) (w s) s) (idle p j) (λ (s : IdState) (h : Tagged s). asked p (s .tag) (w s) j s j<) cs t in
     on one (reads-ones p 16 0 k (map (idle p j) cs) (all-map {P = Tagged} (Mute p) (idle p j) (λ s h. obeying-drives p (s .tag) (wordAt j s) s ∙ ne-eqb (s .tag) 0 h) cs t))
 
-pub round-none : {A : Type 0} (p : ℕ) (k : ℕ → Talk A) (cs : List IdState) → All (Findable p) cs → All Tagged cs →
+pub round-none : {A : Type 0} (p : ℕ) (k : ℕ → Talk A) (cs : List IdState) → All (Readable p) cs → All Tagged cs →
     Leads p (callUp (readAddress k)) cs 308 (k allOnes) (map (idle p 2) cs)
 unfolding readAddress
 round-none p k cs f t =
-    on (calls p (readAddress k) (λ (s : IdState) (q : Findable p s). q .here) cs f)
+    on (calls p (readAddress k) (λ (s : IdState) (q : Readable p s). q .here) cs f)
     (on (nobody p 0 (λ s. s .shift) (λ x. put 129 (bits 16 0 (λ y. put 130 (bits 16 0 (λ z. k ((x * 65536 + y) * 65536 + z)))))) cs (omega arith) t)
     (on (nobody p 1 (wordAt 0) (λ y. put 130 (bits 16 0 (λ z. k ((65535 * 65536 + y) * 65536 + z)))) cs (omega arith) t)
     (nobody p 2 (wordAt 1) (λ z. k ((65535 * 65536 + 65535) * 65536 + z)) cs (omega arith) t)))
@@ -200,7 +211,7 @@ pub record After (p t : ℕ) (c s e : IdState) : Type 0 where
   pub kept : keeping e ≡ keeping s
   pub here′ : e .command ≡ true → e .port ≡ p
 
-pub ends : (p t : ℕ) (c s h : IdState) → p < 16 → 0 < t → t < 8 → Findable p c → Findable p s → Now p (agrees3 c s) s h → After p t c s (idWrite h p (208 + t))
+pub ends : (p t : ℕ) (c s h : IdState) → p < 16 → 0 < t → t < 8 → Readable p c → Readable p s → Now p (agrees3 c s) s h → After p t c s (idWrite h p (208 + t))
 ends p t c s h p< t> t< fc fs (tagged n w e) = rw (e, keeps p (s .tag) w t s t> t< n) (record { tagging = was n refl; kept = refl; here′ = λ _. refl })
 ends p t c s h p< t> t< fc fs (stands z q w e) =
     let f : idWrite h p (208 + t) ≡ obeying p t w s = ap (λ (x : IdState). idWrite x p (208 + t)) (e ∙ ap (λ (v : ℕ). obeying p v w s) z) ∙ takes p w t s t> t< in

@@ -18,7 +18,7 @@ use Rattle.port_rules.specs.Leads.{Leads, on, stay}
 use Rattle.found.proofs.Run.{writes, map-map, map-eq, all-map, all-both, all-all}
 use Rattle.found.proofs.Contend.{Some}
 use Rattle.found.proofs.Sort.{others, others-is, others-not, distinct-others, least-first, length-ascending}
-use Rattle.found.proofs.Round.{Rival, Tagged, judged, round, round-none, idle, now3, ends, After, Ended, was, took, waits}
+use Rattle.found.proofs.Round.{Readable, readable, Rival, Tagged, judged, round, round-none, idle, now3, ends, After, Ended, was, took, waits}
 
 -- the addresses of the untagged cards
 unfoldable pub untagged : List IdState → List ℕ
@@ -39,7 +39,7 @@ untagged-none [] a = refl
 untagged-none (s ∷ cs) (t, a) = untagged-not s cs t ∙ untagged-none cs a
 
 -- the untagged card with the least station, if there is one
-data Least (cs : List IdState) : Type 0 where
+pub data Least (cs : List IdState) : Type 0 where
   nobody : All Tagged cs → Least cs
   this : (c : IdState) → c .tag ≡ 0 → Some (λ s. s ≡ c) cs → All (λ s. s .tag ≡ 0 → station c ≤ station s) cs → Least cs
 
@@ -62,7 +62,7 @@ lower s cs l = first (eqb (s .tag) 0) refl l
     first false e (nobody a) = nobody (eqb-false _ _ e, a)
     first false e (this c t a h) = this c t (inr a) (λ z. absurd (eqb-false _ _ e z), h)
 
-least : (cs : List IdState) → Least cs
+pub least : (cs : List IdState) → Least cs
 least [] = nobody tt
 least (s ∷ cs) = lower s cs (least cs)
 
@@ -182,7 +182,7 @@ finds-none p zero k cs f a =
 finds-none p (suc free) k cs f a =
     let e = untagged-none cs a in
     let c : 308 ≡ costs 0 (suc free) = rw (lt-ltb 0 (suc free) (omega arith)) in
-    let none : Leads p (rounds (suc free) k) cs 308 (k []) (map (idle p 2) cs) = round-none p (λ a. cond (eqb a allOnes) (k []) (put (208 + (7 - free)) (rounds free (λ found. k (a ∷ found))))) cs f a in (
+    let none : Leads p (rounds (suc free) k) cs 308 (k []) (map (idle p 2) cs) = round-none p (λ a. cond (eqb a allOnes) (k []) (put (208 + (7 - free)) (rounds free (λ found. k (a ∷ found))))) cs (all-all {P = Findable p} (Readable p) (readable p) cs f) a in (
       map (idle p 2) cs,
       record {
         leads = subst (λ (xs : List ℕ). Leads p (rounds (suc free) k) cs (costs (length xs) (suc free)) (k (ascending xs)) (map (idle p 2) cs)) (sym e)
@@ -197,7 +197,7 @@ some-length : (P : ℕ → Type 0) (xs : List ℕ) → Some P xs → 0 < length 
 some-length P [] s = absurd s
 some-length P (x ∷ xs) s = omega arith
 
-costs-on : (n free : ℕ) → 308 + (1 + costs n free) ≡ costs (suc n) (suc free)
+pub costs-on : (n free : ℕ) → 308 + (1 + costs n free) ≡ costs (suc n) (suc free)
 costs-on n free = rw (leb·suc-suc (suc n) free) (omega arith)
 
 -- a round with a survivor, and the same search with one tag fewer
@@ -224,10 +224,10 @@ module _ {A : Type 0} (p free : ℕ) (k : List ℕ → Talk A) (cs : List IdStat
 
   after : (s : IdState) → Findable p s → After p t c s (ended s)
   unfolding t ended
-  after s fs = ends p (7 - free) c s (judged p c s) p< (omega arith) (omega arith) fc fs (now3 p c p< fc z s fs)
+  after s fs = ends p (7 - free) c s (judged p c s) p< (omega arith) (omega arith) (readable p c fc) (readable p s fs) (now3 p c p< (readable p c fc) z s (readable p s fs))
 
   rivals : All (Rival p c) cs
-  rivals = all-both {P = Findable p} {Q = λ s. s .tag ≡ 0 → station c ≤ station s} (Rival p c) (λ s q r. (q, r)) cs f low
+  rivals = all-both {P = Findable p} {Q = λ s. s .tag ≡ 0 → station c ≤ station s} (Rival p c) (λ s q r. (readable p s q, r)) cs f low
 
   afters : All (λ s. After p t c s (ended s)) cs
   afters = all-both {P = Findable p} {Q = Findable p} (λ s. After p t c s (ended s)) (λ s q r. after s q) cs f f
@@ -252,7 +252,7 @@ module _ {A : Type 0} (p free : ℕ) (k : List ℕ → Talk A) (cs : List IdStat
   begins : Leads p (rounds (suc free) k) cs (308 + 1) (rounds free go-on) rest
   unfolding rounds t ended
   begins =
-      let r = round p c p< fc z talk cs rivals some in
+      let r = round p c p< (readable p c fc) z talk cs rivals some in
       let e : talk (station c) ≡ put (208 + (7 - free)) (rounds free go-on) = rw (ne-eqb (station c) allOnes (fc .notOnes)) in
       let r′ = subst (λ (u : Talk A). Leads p (rounds (suc free) k) cs 308 u (map (judged p c) cs)) e r in
       on r′ (writes p (208 + t) (rounds free go-on) (judged p c) ended (λ (s : IdState) (q : Rival p c s). refl) cs rivals)

@@ -11,6 +11,7 @@ use Rattle.port_rules.specs.Port.{Talk, write, run, after, portWrite}
 use Rattle.port_rules.specs.Search.{put, puts}
 use Rattle.port_rules.specs.Leads.{Leads, stay, step, on}
 use Rattle.found.specs.Theorems.{All}
+use Rattle.found.specs.OneCard.{wrote}
 
 -- lists
 pub map-map : {X Y Z : Type 0} (g : Y → Z) (f : X → Y) (xs : List X) → map g (map f xs) ≡ map (λ x. g (f x)) xs
@@ -45,10 +46,6 @@ writes p x k f g e cs a =
     subst (λ (ds : List IdState). Leads p (put x k) (map f cs) 1 k ds) (map-map (λ s. idWrite s p x) f cs ∙ map-eq (λ s. idWrite (f s) p x) g e cs a) (step p (write x) (λ _. k) (map f cs))
 
 -- bytes one after the other, card by card
-unfoldable pub wrote : ℕ → List ℕ → IdState → IdState
-wrote p [] s = s
-wrote p (x ∷ xs) s = wrote p xs (idWrite s p x)
-
 pub writes-all : {A : Type 0} (p : ℕ) (xs : List ℕ) (k : Talk A) (cs : List IdState) → Leads p (puts xs k) cs (length xs) k (map (wrote p xs) cs)
 unfolding puts wrote after portWrite
 writes-all p [] k cs = subst (λ (ds : List IdState). Leads p k cs 0 k ds) (sym (map-same cs)) (stay p k cs)

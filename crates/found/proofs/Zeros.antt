@@ -11,7 +11,8 @@ use Rattle.port_rules.specs.Card.{waiting}
 use Rattle.port_rules.specs.Port.{portWrite, value, after, Talk, done, run}
 use Rattle.port_rules.specs.Search.{puts, idBytes, callUp}
 use Rattle.found.specs.Theorems.{Here, oneZero, twoZeros, obedient, One-zero-misses-a-card}
-use Rattle.found.proofs.Run.{wrote, writes-all}
+use Rattle.found.proofs.Run.{writes-all}
+use Rattle.found.specs.OneCard.{wrote}
 use Rattle.found.proofs.Called.{nonzero, roused, calls}
 use Rattle.found.proofs.Round.{deaf}
 

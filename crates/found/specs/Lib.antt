@@ -1,2 +1,3 @@
 -- What the promises of the search and the activation say.
+pub mod OneCard
 pub mod Theorems

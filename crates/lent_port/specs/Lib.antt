@@ -1,3 +1,4 @@
 -- What the covered steps of the calls over a lent slice promise.
 pub mod Held
+pub mod Roll
 pub mod Steps

@@ -12,9 +12,8 @@ use Rattle.port_rules.specs.declared.IdState.{IdState}
 use Rattle.port_rules.specs.declared.Bus.{Bus}
 use Rattle.port_rules.specs.Port.{held, rest}
 use Rattle.port_rules.specs.Calls.{told, padded, Outcome, allSound, allowed, naming, digitOf, refusing, judged}
-use Rattle.lent_port.proofs.Outcomes.{unsound, outside, goes}
 use Rattle.port_rules.specs.Lent.{lent, Alike, The-same-as-by-value}
-use Rattle.lent_port.proofs.Slices.{held-lent, unsound-lent, outside-lent, goes-lent, Talked, over, writing, reading, searching, activating}
+use Rattle.lent_port.proofs.Slices.{held-lent, unsound, outside, goes, unsound-lent, outside-lent, goes-lent, Talked, over, writing, reading, searching, activating}
 
 -- equal outcomes on both sides
 alike-at : {o p u v : Outcome} → p ≡ o → v ≡ u → Alike p v → Alike o u

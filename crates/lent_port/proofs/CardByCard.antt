@@ -22,7 +22,7 @@ use Rattle.found.proofs.Contend.{Some, heard-mute}
 use Rattle.found.proofs.Round.{Readable, Rival, Tagged, judged, round, round-none, idle, now3, ends, After, Ended, was, took, waits, asked, obeying-drives}
 use Rattle.found.proofs.Rounds.{Least, nobody, this, least as lowest, costs, costs-on}
 use Rattle.found.proofs.Found.{clears}
-use Rattle.lent_port.specs.Roll.{calledUp, hears, away, takesPart, Worded, least, struck, found, roundsCost, through, searchedBy}
+use Rattle.lent_port.specs.Roll.{calledUp, hears, away, takesPart, Worded, least, struck, found, roundsCost, through, searchedBy, activatedBy}
 use Rattle.lent_port.proofs.Aside.{away-write, away-read, present, aside}
 use Rattle.lent_port.proofs.Ones.{real, real-ones, real-same, found-real}
 
@@ -44,10 +44,6 @@ any (s ∷ cs) = (tt, any cs)
 
 one-more : {A : Type 0} (p x : ℕ) (k : Talk A) (f : IdState → IdState) (cs : List IdState) → Leads p (put x k) (map f cs) 1 k (map (λ s. idWrite (f s) p x) cs)
 one-more p x k f cs = writes {P = Any} p x k f (λ s. idWrite (f s) p x) (λ s h. refl) cs (any cs)
-
--- what an activation makes of a card, whose command bytes are a and b
-abbrev pub activatedBy : ℕ → ℕ → ℕ → IdState → IdState
-activatedBy p a b s = idWrite (idWrite (calledUp p s) p a) p b
 
 pub activates : (p tag base : ℕ) (cs : List IdState) → Leads p (activate tag base) cs 259 (done []) (map (activatedBy p (216 + tag) (224 + base)) cs)
 unfolding activate

@@ -1,13 +1,10 @@
 --
-pub mod Accesses
 pub mod Alikes
 pub mod Aside
 pub mod CardByCard
-pub mod Finish
-pub mod Gathered
 pub mod Looked
+pub mod Loops
 pub mod Ones
-pub mod Outcomes
-pub mod Places
+pub mod Rolled
 pub mod Slices
 pub mod Turns

@@ -30,7 +30,7 @@ real-more zero [] = refl
 real-more (suc n) [] = real-ones (replicate n allOnes) ∙ real-more n []
 real-more n (x ∷ xs) = real-same x (xs ++ replicate n allOnes) xs (real-more n xs)
 
-least-top : (xs : List ℕ) → least xs ≤ allOnes
+pub least-top : (xs : List ℕ) → least xs ≤ allOnes
 unfolding least
 least-top [] = omega arith
 least-top (x ∷ xs) = omega (arith, least-top xs)

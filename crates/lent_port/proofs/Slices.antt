@@ -9,6 +9,7 @@ use lib.Dec.{leb, eqb}
 use lib.ListN.{length, length-map}
 use lib.Seq.{take-length, drop-length}
 use borrow.Author.Tests.{leb-true, leb-false, le-leb, lt-leb}
+use Rattle.bits.proofs.Tests.{both}
 use Rattle.port_rules.specs.declared.IdState.{IdState}
 use Rattle.port_rules.specs.declared.Bus.{Bus}
 use Rattle.port_rules.specs.Port.{held, rest, seated, Access, write, read, Talk, done, ask, run, value, after, portWrite, portBit, portRead}
@@ -55,19 +56,34 @@ unfolding run
 run-length p (done a) xs = refl
 run-length p (ask a k) xs = run-length p (k (value p a xs)) (after p a xs) ∙ after-length p a xs
 
--- The refusals and the outcome, one below the other, over the slice.
+-- The refusals and the outcome, one below the other: refusal 1, refusal 12, none; and over the slice.
+module _ (b : Bus) (ok : Bool) (o : Outcome) where
+  pub unsound : allSound (held b) ≡ false → refusing 1 b ≡ judged b ok o
+  unfolding judged
+  unsound e = rw e
+
+  pub outside : allSound (held b) ≡ true → ok ≡ false → refusing 12 b ≡ judged b ok o
+  unfolding judged
+  outside e f = rw (e, f)
+
+  pub goes : allSound (held b) ≡ true → ok ≡ true → o ≡ judged b ok o
+  unfolding judged
+  goes e f = rw (e, f)
+
 module _ (xs : List IdState) (ok : Bool) (o : Outcome) where
   pub unsound-lent : allSound xs ≡ false → refusing 1 (lent xs) ≡ judged (lent xs) ok o
-  unfolding judged
-  unsound-lent e = rw (held-lent xs, e)
+  unsound-lent e = unsound (lent xs) ok o (ap allSound (held-lent xs) ∙ e)
 
   pub outside-lent : allSound xs ≡ true → ok ≡ false → refusing 12 (lent xs) ≡ judged (lent xs) ok o
-  unfolding judged
-  outside-lent e f = rw (held-lent xs, e, f)
+  outside-lent e f = outside (lent xs) ok o (ap allSound (held-lent xs) ∙ e) f
 
   pub goes-lent : allSound xs ≡ true → ok ≡ true → o ≡ judged (lent xs) ok o
-  unfolding judged
-  goes-lent e f = rw (held-lent xs, e, f)
+  goes-lent e f = goes (lent xs) ok o (ap allSound (held-lent xs) ∙ e) f
+
+-- an allowed call has at most eight cards
+pub few : (b : Bus) (port : ℕ) → allowed b port ≡ true → b .count ≤ 8
+unfolding allowed
+few b port e = leb-true (b .count) 8 (both (eqb (port % 16) 0 && eqb (port / 256) 1) (leb (b .count) 8) e .1)
 
 -- What a call comes to where nothing is refused, as functions of the cards that are there.
 pub record Talked : Type 0 where

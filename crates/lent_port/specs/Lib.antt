@@ -1,4 +1,3 @@
 -- What the covered steps of the calls over a lent slice promise.
-pub mod Held
 pub mod Roll
 pub mod Steps

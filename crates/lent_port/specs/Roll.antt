@@ -60,3 +60,7 @@ through p (suc free) (a ∷ xs) s = through p free xs (idWrite (hears p a (calle
 -- The search: two zeros, sequence, D0h; then the rounds, with seven tags.
 unfoldable pub searchedBy : ℕ → List ℕ → IdState → IdState
 searchedBy p xs s = through p 7 xs (idWrite (calledUp p s) p 0xD0)
+
+-- Activation: two zeros, sequence, and the two commands.
+abbrev pub activatedBy : ℕ → ℕ → ℕ → IdState → IdState
+activatedBy p a b s = idWrite (idWrite (calledUp p s) p a) p b

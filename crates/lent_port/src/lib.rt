@@ -1,22 +1,16 @@
 // The cards on one ID port as a lent slice of ID states: a byte written, the port read, the search and the activation of a found card.
-// Each contract is that of the call over a bus by value (crate `port`), with the slice for the bus; a refused call leaves the slice as it came.
-// A write and a read step each card where it stands. The search and the activation take the slice into the array by value, run there, and put it back.
-ghost use mathlib.Core.Path.{_≡_};
-ghost use Rattle.port_rules.specs.Lent.{listedOf, The-same-as-by-value};
+// Each call looks at each card, decides what the accesses carry, and steps each card where it stands. Each contract is that of the call over a bus by value (crate `port`), with the slice for the bus; a refused call leaves the slice as it came.
+ghost use Rattle.port_rules.specs.Lent.{The-same-as-by-value};
 ghost use Rattle.port_rules.specs.Contracts as contract;
 use port_rules::Activation;
-use port_rules::AfterSearch;
 use port_rules::Bit;
 use port_rules::IdState;
 use port_rules::Listed;
 use port_rules::Wrote;
 
-mod access;
-mod by_value;
-mod checks;
-mod host;
-mod look; // look.rt: a look at one card, and one card stepped
-mod seats; // seats.rt: one card taken in or put back
+mod card; // card.rt: one card by itself, access by access
+mod look; // look.rt: a write, a read, an activation
+mod roll; // roll.rt: the search
 
 // A byte written to the port, which each card sees. A port is its I/O address, 100h to 1F0h.
 pub fn write(cards: &mut [IdState], port: u16, byte: u8) -> Wrote
@@ -56,53 +50,42 @@ pub fn read(cards: &mut [IdState], port: u16) -> Bit
     look::read_answer(step)
 }
 
-fn answered(after: AfterSearch) -> Listed
-    ensures { λ r. ⌜ r ≡ listedOf after ⌝ }
-{
-    let answer = after.answer;
-    let addresses = after.addresses;
-    Listed {
-        answer: answer,
-        addresses: addresses,
-    }
-}
-
 // The search: the cards found are tagged from 1 on.
 pub fn find(cards: &mut [IdState], port: u16) -> Listed
     ensures { λ r. ⌜ contract.lent-find (now (cards .entry)) port r (now (cards .exit)) ⌝ }
 {
-    let mut taken = seats::empty(port);
+    let mut seen = roll::begin(port);
     let mut i = 0;
     while i < cards.len() {
-        taken = seats::take(taken, cards[i]);
+        seen = roll::at(seen, cards[i]);
         i += 1;
     }
-    let after = seats::found(taken);
+    let finding = roll::search(seen);
     let mut j = 0;
     while j < cards.len() {
-        cards[j] = seats::found_at(after, j, cards[j]);
+        cards[j] = roll::searched(finding, cards[j]);
         j += 1;
     }
-    answered(after)
+    roll::found_answer(finding)
 }
 
 // Activation of the card with this tag, 1 to 7, at this base number; 31 means preconfigured.
 pub fn activate(cards: &mut [IdState], port: u16, tag: u8, base: u8) -> Activation
     ensures { λ r. ⌜ contract.lent-activate (now (cards .entry)) port tag base r (now (cards .exit)) ⌝ }
 {
-    let mut taken = seats::empty(port);
+    let mut seen = look::begin(port);
     let mut i = 0;
     while i < cards.len() {
-        taken = seats::take(taken, cards[i]);
+        seen = look::at(seen, cards[i]);
         i += 1;
     }
-    let after = seats::activated(taken, tag, base);
+    let order = look::activating(seen, tag, base);
     let mut j = 0;
     while j < cards.len() {
-        cards[j] = seats::activated_at(after, j, cards[j]);
+        cards[j] = look::activated(order, cards[j]);
         j += 1;
     }
-    seats::activation_answer(after)
+    look::activate_answer(order)
 }
 
 // A slice of at most eight cards and a bus by value that holds the same cards come to the same.

@@ -1,13 +1,15 @@
-// A write or a read over the slice: a look at each card, the tests, and the step of one card.
+// A write, a read or an activation over the slice: a look at each card, the tests, and the step of one card.
 ghost use mathlib.Core.Path.{_≡_};
 ghost use Prim.Native.Nat.{_+_, min};
 ghost use mathlib.Core.List.{[], _∷_};
-ghost use Rattle.port_rules.specs.Calls.{wroteReply, bitReply};
-ghost use Rattle.lent_port.specs.Steps.{unseen, seenWith, writingOf, readingOf, writtenBy, heardBy, replyOf, portFits};
+ghost use Rattle.port_rules.specs.Calls.{wroteReply, bitReply, activationReply};
+ghost use Rattle.lent_port.specs.Steps.{unseen, seenWith, writingOf, readingOf, activatingOf, writtenBy, heardBy, activatedIn, replyOf, orderReply, portFits};
+use crate::card::call_up;
 use idport::id_after_read;
 use idport::id_bit;
 use idport::id_sound;
 use idport::id_write;
+use port_rules::Activation;
 use port_rules::Bit;
 use port_rules::IdState;
 use port_rules::Wrote;
@@ -72,7 +74,7 @@ pub fn at(seen: Seen, card: IdState) -> Seen
 }
 
 // Whether the port is one of 100h, 110h, .. 1F0h, and the cards are at most eight.
-fn allowed(port: u16, count: usize) -> bool
+pub fn allowed(port: u16, count: usize) -> bool
     ensures { λ r. ⌜ r ≡ portFits port count ⌝ }
 {
     (port % 16 == 0) & (port / 256 == 1) & (count <= 8)
@@ -159,4 +161,61 @@ pub fn read_answer(step: Step) -> Bit
     }
     let bit = step.value;
     Bit::Value(bit)
+}
+
+// What an activation does to each card: the outcome of the tests, x of port 1x0h, and the two commands.
+pub struct Order {
+    pub sound: bool,
+    pub fit: bool,
+    pub x: u8,
+    pub test: u8,
+    pub activate: u8,
+}
+
+pub fn activating(seen: Seen, tag: u8, base: u8) -> Order
+    ensures { λ r. ⌜ r ≡ activatingOf seen tag base ⌝ }
+{
+    let fit = allowed(seen.port, seen.count);
+    let x = idport::digit(seen.port);
+    if idport::names(tag, base) {
+        return Order {
+            sound: seen.sound,
+            fit: fit,
+            x: x,
+            test: 0xD8 + tag,
+            activate: 0xE0 + base,
+        };
+    }
+    Order {
+        sound: seen.sound,
+        fit: false,
+        x: x,
+        test: 0,
+        activate: 0,
+    }
+}
+
+// One card after the activation: two zeros, sequence, D8h plus tag, E0h plus base number. A refused activation leaves it as it came.
+pub fn activated(order: Order, card: IdState) -> IdState
+    ensures { λ r. ⌜ r ≡ activatedIn order card ⌝ }
+{
+    if order.sound & order.fit {
+        let x = order.x;
+        let called = call_up(card, x);
+        let tested = id_write(called, x, order.test);
+        return id_write(tested, x, order.activate);
+    }
+    card
+}
+
+pub fn activate_answer(order: Order) -> Activation
+    ensures { λ r. ⌜ activationReply r ≡ orderReply order ⌝ }
+{
+    if !order.sound {
+        return Activation::Refused(Refusal::StateUnsound);
+    }
+    if !order.fit {
+        return Activation::Refused(Refusal::ArgumentOutside);
+    }
+    Activation::Done { accesses: 259 }
 }

@@ -19,8 +19,7 @@ use Rattle.port_rules.specs.declared.AfterActivation.{AfterActivation}
 use Rattle.port_rules.specs.Port.{held, rest}
 use Rattle.port_rules.specs.Calls.{padded, Outcome, allSound, allowed, naming, digitOf, refusing, judged, wroteOf, readOf, foundOf, activatedOf, portWrites, portReads, findsCards, activatesCard}
 use Rattle.port_rules.specs.Lent.{lent, wroteOver, readOver, foundOver, activatedOver}
-use Rattle.lent_port.proofs.Outcomes.{unsound, outside, goes, few}
-use Rattle.lent_port.proofs.Slices.{unsound-lent, outside-lent, goes-lent, over-lent, Talked, over, writing, reading, searching, activating}
+use Rattle.lent_port.proofs.Slices.{unsound, outside, goes, few, unsound-lent, outside-lent, goes-lent, over-lent, Talked, over, writing, reading, searching, activating}
 use Rattle.lent_port.proofs.Alikes.{allowed-same}
 
 -- an outcome over the cards that are there, with the places past them behind

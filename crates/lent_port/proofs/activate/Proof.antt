@@ -1,4 +1,4 @@
--- `activate` meets its contract: a walk of its MIR, made by tools/walk-lent. The borrow is opened once, before the loops, and closed after them. The first loop shows each card to `take`; the second puts in each place what `activated_at` gives.
+-- `activate` meets its contract: a walk of its MIR, made by tools/walk-lent. The borrow is opened once, before the loops, and closed after them. The first loop shows each card to `at`; the second puts in each place what `activated` gives.
 -- Assumes nothing.
 use mathlib.Core.Path.{_≡_, refl, sym, ap, subst, _∙_}
 use mathlib.Core.Bool.{Bool, true, false}
@@ -32,7 +32,7 @@ use denote.Shadow.{pureI}
 use denote.Laws.{Is, shows}
 use denote.Memory.{mem, pointee}
 use denote.Plain.{uint-makes, uint-vals, uint-tells}
-use denote.Builtin.{u8, u16, usize}
+use denote.Builtin.{u8, u16}
 use denote.Ref.{RefT}
 use denote.Slice.{sliceTy, sliceVal, MutSlice, Room, heres, codedHoleys, at-slice, slice-vals, mut-slice-tells}
 use denote.Lend.{Held}
@@ -52,40 +52,40 @@ use denote.Exit.{yes}
 use Rattle.port_rules.specs.declared.IdState.{IdState}
 use Rattle.port_rules.proofs.IdState as T
 use Rattle.port_rules.proofs.IdState.Laws as T′
-use Rattle.lent_port.specs.declared.seats.Taken.{Taken}
-use Rattle.port_rules.specs.declared.AfterActivation.{AfterActivation}
+use Rattle.lent_port.specs.declared.look.Seen.{Seen}
+use Rattle.lent_port.specs.declared.look.Order.{Order}
 use Rattle.port_rules.specs.declared.Activation.{Activation}
-use Rattle.port_rules.specs.Calls.{activatedOf, activatesCard}
-use Rattle.lent_port.specs.Steps.{emptied, takenWith, activatedIn, seatOf}
+use Rattle.port_rules.specs.Calls.{activationReply, activatesCard}
+use Rattle.lent_port.specs.Steps.{unseen, seenWith, activatingOf, activatedIn, orderReply}
 use Rattle.port_rules.specs.Lent.{lent, activatedOver}
 use Rattle.lent_port.proofs.Turns.{noCard as d, gone, gone-none, gone-length, gone-next}
-use Rattle.lent_port.proofs.Gathered.{Gathered, gathered-none, gathered-next, activated-ends}
-use Rattle.lent_port.proofs.seats.Taken as Wk
-use Rattle.lent_port.proofs.seats.Taken.Laws as Wk′
-use Rattle.port_rules.proofs.AfterActivation as Vr
-use Rattle.port_rules.proofs.AfterActivation.Laws as Vr′
+use Rattle.lent_port.proofs.Looked.{Looked, looked-none, looked-next, activated-ends}
+use Rattle.lent_port.proofs.look.Seen as Wk
+use Rattle.lent_port.proofs.look.Seen.Laws as Wk′
+use Rattle.lent_port.proofs.look.Order as Vr
+use Rattle.lent_port.proofs.look.Order.Laws as Vr′
 use Rattle.port_rules.proofs.Activation as Rs
 use Rattle.port_rules.proofs.Activation.Laws as Rs′
-use Rattle.lent_port.proofs.seats.empty as begin
-use Rattle.lent_port.proofs.seats.empty.Symbol as begin-def
-use Rattle.lent_port.proofs.seats.empty.Symbol.{name as #lent-port·seats·empty}
-use Rattle.lent_port.proofs.seats.empty.Met as begin-thm
-use Rattle.lent_port.proofs.seats.take as take
-use Rattle.lent_port.proofs.seats.take.Symbol as take-def
-use Rattle.lent_port.proofs.seats.take.Symbol.{name as #lent-port·seats·take}
-use Rattle.lent_port.proofs.seats.take.Met as take-thm
-use Rattle.lent_port.proofs.seats.activated as perform
-use Rattle.lent_port.proofs.seats.activated.Symbol as perform-def
-use Rattle.lent_port.proofs.seats.activated.Symbol.{name as #lent-port·seats·activated}
-use Rattle.lent_port.proofs.seats.activated.Met as perform-thm
-use Rattle.lent_port.proofs.seats.activated_at as give
-use Rattle.lent_port.proofs.seats.activated_at.Symbol as give-def
-use Rattle.lent_port.proofs.seats.activated_at.Symbol.{name as #lent-port·seats·activated-at}
-use Rattle.lent_port.proofs.seats.activated_at.Met as give-thm
-use Rattle.lent_port.proofs.seats.activation_answer as reply
-use Rattle.lent_port.proofs.seats.activation_answer.Symbol as reply-def
-use Rattle.lent_port.proofs.seats.activation_answer.Symbol.{name as #lent-port·seats·activation-answer}
-use Rattle.lent_port.proofs.seats.activation_answer.Met as reply-thm
+use Rattle.lent_port.proofs.look.begin as begin
+use Rattle.lent_port.proofs.look.begin.Symbol as begin-def
+use Rattle.lent_port.proofs.look.begin.Symbol.{name as #lent-port·look·begin}
+use Rattle.lent_port.proofs.look.begin.Met as begin-thm
+use Rattle.lent_port.proofs.look.at as take
+use Rattle.lent_port.proofs.look.at.Symbol as take-def
+use Rattle.lent_port.proofs.look.at.Symbol.{name as #lent-port·look·at}
+use Rattle.lent_port.proofs.look.at.Met as take-thm
+use Rattle.lent_port.proofs.look.activating as perform
+use Rattle.lent_port.proofs.look.activating.Symbol as perform-def
+use Rattle.lent_port.proofs.look.activating.Symbol.{name as #lent-port·look·activating}
+use Rattle.lent_port.proofs.look.activating.Met as perform-thm
+use Rattle.lent_port.proofs.look.activated as give
+use Rattle.lent_port.proofs.look.activated.Symbol as give-def
+use Rattle.lent_port.proofs.look.activated.Symbol.{name as #lent-port·look·activated}
+use Rattle.lent_port.proofs.look.activated.Met as give-thm
+use Rattle.lent_port.proofs.look.activate_answer as reply
+use Rattle.lent_port.proofs.look.activate_answer.Symbol as reply-def
+use Rattle.lent_port.proofs.look.activate_answer.Symbol.{name as #lent-port·look·activate-answer}
+use Rattle.lent_port.proofs.look.activate_answer.Met as reply-thm
 use Rattle.lent_port.proofs.activate.Key.{name as #lent-port·activate}
 use Rattle.lent_port.proofs.activate as call
 use Rattle.lent_port.proofs.activate.Statement as stated
@@ -104,49 +104,49 @@ slice = sliceTy (tyRef (named 0) mut (pointee (T.the-row .written)))
 -- where the first loop stands: after i turns, with w gathered, which is v in the machine
 record Passed (port : ℕ) (ys : List IdState) : Type 0 where
   i : ℕ
-  w : Taken
+  w : Seen
   v : Val
   is : Is Wk.the-row w (v ∷ [])
-  inv : Gathered port ys i w
+  inv : Looked port ys i w
 
 module _ {M : Type 1} (𝓤 : URA M) (H : Heap 𝓤) (A : Atoms 𝓤) (mem : Memory → SProp 𝓤) (run : Routine → Fun 𝓤) where
   -- the contracts that the walk cites, and of each `ensured` the clause alone
   abbrev Begin : Contract 𝓤
   Begin = tripleOf 𝓤 H A begin.signature (begin.spec 𝓤 H A mem run)
 
-  begin-says : (port : ℕ) (r : Taken) → ent 𝓤 (ensured 𝓤 H A begin.ended (begin.clauses 𝓤 H A mem run) tt (port, tt) tt r) (fact 𝓤 (r ≡ emptied port))
-  begin-says port r = exE 𝓤 _ (λ ws. snd∗ 𝓤 (sem 𝓤 H A (lasts begin.ended tt (port, tt) ws)) (fact 𝓤 (r ≡ emptied port)))
+  begin-says : (port : ℕ) (r : Seen) → ent 𝓤 (ensured 𝓤 H A begin.ended (begin.clauses 𝓤 H A mem run) tt (port, tt) tt r) (fact 𝓤 (r ≡ unseen port))
+  begin-says port r = exE 𝓤 _ (λ ws. snd∗ 𝓤 (sem 𝓤 H A (lasts begin.ended tt (port, tt) ws)) (fact 𝓤 (r ≡ unseen port)))
 
   abbrev Take : Contract 𝓤
   Take = tripleOf 𝓤 H A take.signature (take.spec 𝓤 H A mem run)
 
-  take-says : (w : Taken) (h : IdState) (r : Taken) → ent 𝓤 (ensured 𝓤 H A take.ended (take.clauses 𝓤 H A mem run) tt (w, (h, tt)) tt r) (fact 𝓤 (r ≡ takenWith w h))
-  take-says w h r = exE 𝓤 _ (λ ws. snd∗ 𝓤 (sem 𝓤 H A (lasts take.ended tt (w, (h, tt)) ws)) (fact 𝓤 (r ≡ takenWith w h)))
+  take-says : (w : Seen) (h : IdState) (r : Seen) → ent 𝓤 (ensured 𝓤 H A take.ended (take.clauses 𝓤 H A mem run) tt (w, (h, tt)) tt r) (fact 𝓤 (r ≡ seenWith w h))
+  take-says w h r = exE 𝓤 _ (λ ws. snd∗ 𝓤 (sem 𝓤 H A (lasts take.ended tt (w, (h, tt)) ws)) (fact 𝓤 (r ≡ seenWith w h)))
 
   abbrev Perform : Contract 𝓤
   Perform = tripleOf 𝓤 H A perform.signature (perform.spec 𝓤 H A mem run)
 
-  perform-says : (w : Taken) (tag base : ℕ) (r : AfterActivation) → ent 𝓤 (ensured 𝓤 H A perform.ended (perform.clauses 𝓤 H A mem run) tt (w, (tag, (base, tt))) tt r) (fact 𝓤 (activatedOf r ≡ activatedIn w tag base))
-  perform-says w tag base r = exE 𝓤 _ (λ ws. snd∗ 𝓤 (sem 𝓤 H A (lasts perform.ended tt (w, (tag, (base, tt))) ws)) (fact 𝓤 (activatedOf r ≡ activatedIn w tag base)))
+  perform-says : (w : Seen) (tag base : ℕ) (r : Order) → ent 𝓤 (ensured 𝓤 H A perform.ended (perform.clauses 𝓤 H A mem run) tt (w, (tag, (base, tt))) tt r) (fact 𝓤 (r ≡ activatingOf w tag base))
+  perform-says w tag base r = exE 𝓤 _ (λ ws. snd∗ 𝓤 (sem 𝓤 H A (lasts perform.ended tt (w, (tag, (base, tt))) ws)) (fact 𝓤 (r ≡ activatingOf w tag base)))
 
   abbrev Give : Contract 𝓤
   Give = tripleOf 𝓤 H A give.signature (give.spec 𝓤 H A mem run)
 
-  give-says : (v : AfterActivation) (j : ℕ) (h : IdState) (r : IdState) → ent 𝓤 (ensured 𝓤 H A give.ended (give.clauses 𝓤 H A mem run) tt (v, (j, (h, tt))) tt r) (fact 𝓤 (r ≡ seatOf (v .bus) j h))
-  give-says v j h r = exE 𝓤 _ (λ ws. snd∗ 𝓤 (sem 𝓤 H A (lasts give.ended tt (v, (j, (h, tt))) ws)) (fact 𝓤 (r ≡ seatOf (v .bus) j h)))
+  give-says : (v : Order) (h : IdState) (r : IdState) → ent 𝓤 (ensured 𝓤 H A give.ended (give.clauses 𝓤 H A mem run) tt (v, (h, tt)) tt r) (fact 𝓤 (r ≡ activatedIn v h))
+  give-says v h r = exE 𝓤 _ (λ ws. snd∗ 𝓤 (sem 𝓤 H A (lasts give.ended tt (v, (h, tt)) ws)) (fact 𝓤 (r ≡ activatedIn v h)))
 
   abbrev Reply : Contract 𝓤
   Reply = tripleOf 𝓤 H A reply.signature (reply.spec 𝓤 H A mem run)
 
-  reply-says : (v : AfterActivation) (r : Activation) → ent 𝓤 (ensured 𝓤 H A reply.ended (reply.clauses 𝓤 H A mem run) tt (v, tt) tt r) (fact 𝓤 (r ≡ v .answer))
-  reply-says v r = exE 𝓤 _ (λ ws. snd∗ 𝓤 (sem 𝓤 H A (lasts reply.ended tt (v, tt) ws)) (fact 𝓤 (r ≡ v .answer)))
+  reply-says : (v : Order) (r : Activation) → ent 𝓤 (ensured 𝓤 H A reply.ended (reply.clauses 𝓤 H A mem run) tt (v, tt) tt r) (fact 𝓤 (activationReply r ≡ orderReply v))
+  reply-says v r = exE 𝓤 _ (λ ws. snd∗ 𝓤 (sem 𝓤 H A (lasts reply.ended tt (v, tt) ws)) (fact 𝓤 (activationReply r ≡ orderReply v)))
 
   record Known (𝓣 : Tables 𝓤 H) : Type 1 where
-    begin-known : Triple 𝓤 (𝓣 .C #lent-port·seats·empty) Begin
-    take-known : Triple 𝓤 (𝓣 .C #lent-port·seats·take) Take
-    perform-known : Triple 𝓤 (𝓣 .C #lent-port·seats·activated) Perform
-    give-known : Triple 𝓤 (𝓣 .C #lent-port·seats·activated-at) Give
-    reply-known : Triple 𝓤 (𝓣 .C #lent-port·seats·activation-answer) Reply
+    begin-known : Triple 𝓤 (𝓣 .C #lent-port·look·begin) Begin
+    take-known : Triple 𝓤 (𝓣 .C #lent-port·look·at) Take
+    perform-known : Triple 𝓤 (𝓣 .C #lent-port·look·activating) Perform
+    give-known : Triple 𝓤 (𝓣 .C #lent-port·look·activated) Give
+    reply-known : Triple 𝓤 (𝓣 .C #lent-port·look·activate-answer) Reply
 
 module _ {M : Type 1} (𝓤 : URA M) (H : Heap 𝓤) (A : Atoms 𝓤) (W : Given 𝓤 H A) (mem′ : Memory → SProp 𝓤) (run : Routine → Fun 𝓤) (κ : Lft) (q : Share) (b o : ℕ) (γ : GName) (ys : List IdState) (port tag base : ℕ) (port-fits : port < 2 ^ 16) (tag-fits : tag < 2 ^ 8) (base-fits : base < 2 ^ 8) where
   abbrev n : ℕ
@@ -179,31 +179,31 @@ module _ {M : Type 1} (𝓤 : URA M) (H : Heap 𝓤) (A : Atoms 𝓤) (W : Given
   abbrev to-begin : (port : ℕ) → Begin 𝓤 H A mem′ run .Ghost
   to-begin port = ((tt, tt, tt, (port, tt), (vint w16 port ∷ [], tt)), tt)
 
-  abbrev to-take : (w : Taken) (h : IdState) (v : Val) → Take 𝓤 H A mem′ run .Ghost
+  abbrev to-take : (w : Seen) (h : IdState) (v : Val) → Take 𝓤 H A mem′ run .Ghost
   to-take w h v = ((tt, tt, tt, (w, (h, tt)), (v ∷ [], (vals h, tt))), tt)
 
-  abbrev to-perform : (w : Taken) (tag base : ℕ) (v : Val) → Perform 𝓤 H A mem′ run .Ghost
+  abbrev to-perform : (w : Seen) (tag base : ℕ) (v : Val) → Perform 𝓤 H A mem′ run .Ghost
   to-perform w tag base v = ((tt, tt, tt, (w, (tag, (base, tt))), (v ∷ [], (vint w8 tag ∷ [], (vint w8 base ∷ [], tt)))), tt)
 
-  abbrev to-give : (v : AfterActivation) (j : ℕ) (h : IdState) (u : Val) → Give 𝓤 H A mem′ run .Ghost
-  to-give v j h u = ((tt, tt, tt, (v, (j, (h, tt))), (u ∷ [], (vint w64 j ∷ [], (vals h, tt)))), tt)
+  abbrev to-give : (v : Order) (h : IdState) (u : Val) → Give 𝓤 H A mem′ run .Ghost
+  to-give v h u = ((tt, tt, tt, (v, (h, tt)), (u ∷ [], (vals h, tt))), tt)
 
-  abbrev to-reply : (v : AfterActivation) (u : Val) → Reply 𝓤 H A mem′ run .Ghost
+  abbrev to-reply : (v : Order) (u : Val) → Reply 𝓤 H A mem′ run .Ghost
   to-reply v u = ((tt, tt, tt, (v, tt), (u ∷ [], tt)), tt)
 
   goes-begin : ent 𝓤 (sem 𝓤 H A (u16 .own port (vint w16 port ∷ []))) (Begin 𝓤 H A mem′ run .pre (to-begin port))
   goes-begin = qed W (‵ (u16 .own port (vint w16 port ∷ [])) ∷ []) ∵ nothing ! $ move ! (1 ∷ 0 ∷ []) $ fjoin ! $ nothing ! $ join ! $ nothing ! $ move ! (1 ∷ 0 ∷ []) $ join ! $ done !
 
-  goes-take : (w : Taken) (h : IdState) (v : Val) → Is Wk.the-row w (v ∷ []) → ent 𝓤 (sem 𝓤 H A (T.the-row .own h (vals h))) (Take 𝓤 H A mem′ run .pre (to-take w h v))
+  goes-take : (w : Seen) (h : IdState) (v : Val) → Is Wk.the-row w (v ∷ []) → ent 𝓤 (sem 𝓤 H A (T.the-row .own h (vals h))) (Take 𝓤 H A mem′ run .pre (to-take w h v))
   goes-take w h v is = qed W (‵ (T.the-row .own h (vals h)) ∷ []) ∵ nothing ! $ move ! (1 ∷ 0 ∷ []) $ fjoin ! $ owned ! Wk.the-row (Is Wk.the-row) (LL.makes Wk.the-type Wk′.the-plain 𝓤 H A) w _ is $ fjoin ! $ nothing ! $ join ! $ nothing ! $ move ! (1 ∷ 0 ∷ []) $ join ! $ done !
 
-  goes-perform : (w : Taken) (v : Val) → ent 𝓤 (sem 𝓤 H A (Wk.the-row .own w (v ∷ []))) (Perform 𝓤 H A mem′ run .pre (to-perform w tag base v))
+  goes-perform : (w : Seen) (v : Val) → ent 𝓤 (sem 𝓤 H A (Wk.the-row .own w (v ∷ []))) (Perform 𝓤 H A mem′ run .pre (to-perform w tag base v))
   goes-perform w v = qed W (‵ (Wk.the-row .own w (v ∷ [])) ∷ []) ∵ nothing ! $ owned ! u8 (Is u8) (uint-makes 𝓤 H A W w8) base _ (refl, base-fits) $ fjoin ! $ owned ! u8 (Is u8) (uint-makes 𝓤 H A W w8) tag _ (refl, tag-fits) $ fjoin ! $ move ! (1 ∷ 0 ∷ []) $ fjoin ! $ nothing ! $ join ! $ nothing ! $ move ! (1 ∷ 0 ∷ []) $ join ! $ done !
 
-  goes-give : (v : AfterActivation) (j : ℕ) (h : IdState) (u : Val) → Is Vr.the-row v (u ∷ []) → j < 2 ^ 64 → ent 𝓤 (sem 𝓤 H A (T.the-row .own h (vals h))) (Give 𝓤 H A mem′ run .pre (to-give v j h u))
-  goes-give v j h u is j-fits = qed W (‵ (T.the-row .own h (vals h)) ∷ []) ∵ nothing ! $ move ! (1 ∷ 0 ∷ []) $ fjoin ! $ owned ! usize (Is usize) (uint-makes 𝓤 H A W w64) j _ (refl, j-fits) $ fjoin ! $ owned ! Vr.the-row (Is Vr.the-row) (LL.makes Vr.the-type Vr′.the-plain 𝓤 H A) v _ is $ fjoin ! $ nothing ! $ join ! $ nothing ! $ move ! (1 ∷ 0 ∷ []) $ join ! $ done !
+  goes-give : (v : Order) (h : IdState) (u : Val) → Is Vr.the-row v (u ∷ []) → ent 𝓤 (sem 𝓤 H A (T.the-row .own h (vals h))) (Give 𝓤 H A mem′ run .pre (to-give v h u))
+  goes-give v h u is = qed W (‵ (T.the-row .own h (vals h)) ∷ []) ∵ nothing ! $ move ! (1 ∷ 0 ∷ []) $ fjoin ! $ owned ! Vr.the-row (Is Vr.the-row) (LL.makes Vr.the-type Vr′.the-plain 𝓤 H A) v _ is $ fjoin ! $ nothing ! $ join ! $ nothing ! $ move ! (1 ∷ 0 ∷ []) $ join ! $ done !
 
-  goes-reply : (v : AfterActivation) (u : Val) → ent 𝓤 (sem 𝓤 H A (Vr.the-row .own v (u ∷ []))) (Reply 𝓤 H A mem′ run .pre (to-reply v u))
+  goes-reply : (v : Order) (u : Val) → ent 𝓤 (sem 𝓤 H A (Vr.the-row .own v (u ∷ []))) (Reply 𝓤 H A mem′ run .pre (to-reply v u))
   goes-reply v u = qed W (‵ (Vr.the-row .own v (u ∷ [])) ∷ []) ∵ nothing ! $ move ! (1 ∷ 0 ∷ []) $ fjoin ! $ nothing ! $ join ! $ nothing ! $ move ! (1 ∷ 0 ∷ []) $ join ! $ done !
 
   abbrev Nearer : ℕ → ℕ → Type 0
@@ -223,9 +223,9 @@ module _ {M : Type 1} (𝓤 : URA M) (H : Heap 𝓤) (A : Atoms 𝓤) (W : Given
     En = (Rs′.mir, l₀) ∷ (slice, l₁) ∷ ((tyInt w16), l₂) ∷ ((tyInt w8), l₃) ∷ ((tyInt w8), l₄) ∷ (Wk′.mir, l₅) ∷ ((tyInt w64), l₆) ∷ (Vr′.mir, l₇) ∷ ((tyInt w64), l₈) ∷ ((tyInt w64), l₉) ∷ (tyBool, l₁₀) ∷ (tyPtr, l₁₁) ∷ (T′.mir, l₁₂) ∷ ((tyInt w64), l₁₃) ∷ (tyBool, l₁₄) ∷ (T′.mir, l₁₅) ∷ (tyPtr, l₁₆) ∷ (T′.mir, l₁₇) ∷ ((tyInt w64), l₁₈) ∷ (tyPtr, l₁₉) ∷ []
 
     -- the second loop: v says what is put in each place
-    module _ (i : ℕ) (v-w : Val) (v : AfterActivation) (u : Val) (is-v : Is Vr.the-row v (u ∷ [])) (ends : (j : ℕ) (r : Activation) → n ≤ j → r ≡ v .answer → activatedOver r (gone (λ (j : ℕ) (h : IdState). seatOf (v .bus) j h) 0 j ys) ≡ activatesCard (lent ys) port tag base) where
+    module _ (i : ℕ) (v-w : Val) (v : Order) (u : Val) (is-v : Is Vr.the-row v (u ∷ [])) (ends : (j : ℕ) (r : Activation) → n ≤ j → activationReply r ≡ orderReply v → activatedOver r (gone (λ (j : ℕ) (h : IdState). activatedIn v h) 0 j ys) ≡ activatesCard (lent ys) port tag base) where
       abbrev At₂ : ℕ → List (Item 𝓤)
-      At₂ j = ‵ (row T.the-row fullShare (gone (λ (j : ℕ) (h : IdState). seatOf (v .bus) j h) 0 j ys) b o) ∷ ‵ (fobor κ q (Held T.the-row n b o γ)) ∷ ‵ (fobs γ (codedHoleys T.the-row .code (heres T.the-row ys))) ∷ ‵ (fauth γ (codedHoleys T.the-row .code (heres T.the-row ys)))
+      At₂ j = ‵ (row T.the-row fullShare (gone (λ (j : ℕ) (h : IdState). activatedIn v h) 0 j ys) b o) ∷ ‵ (fobor κ q (Held T.the-row n b o γ)) ∷ ‵ (fobs γ (codedHoleys T.the-row .code (heres T.the-row ys))) ∷ ‵ (fauth γ (codedHoleys T.the-row .code (heres T.the-row ys)))
           ∷ ‵ (froom tyPtr l₁₉ 0) ∷ ‵ (fdies tyPtr l₁₉)
           ∷ ‵ (froom (tyInt w64) l₁₈ 0) ∷ ‵ (fdies (tyInt w64) l₁₈)
           ∷ ‵ (froom T′.mir l₁₇ 0) ∷ ‵ (fdies T′.mir l₁₇)
@@ -254,29 +254,29 @@ module _ {M : Type 1} (𝓤 : URA M) (H : Heap 𝓤) (A : Atoms 𝓤) (W : Given
       unfolding afterTurn
       turn₂ j true e =
           let small : j < n = ltb-true j n e in
-          let within : j < length (gone (λ (j : ℕ) (h : IdState). seatOf (v .bus) j h) 0 j ys) = subst (λ (m : ℕ). j < m) (sym (gone-length (λ (j : ℕ) (h : IdState). seatOf (v .bus) j h) 0 j ys)) small in
+          let within : j < length (gone (λ (j : ℕ) (h : IdState). activatedIn v h) 0 j ys) = subst (λ (m : ℕ). j < m) (sym (gone-length (λ (j : ℕ) (h : IdState). activatedIn v h) 0 j ys)) small in
           let fits : j * mem T.the-row .size < 2 ^ 64 = omega (arith, room .1) in
           let more : j + 1 < 2 ^ 64 = omega (arith, room .0) in
-          let h : IdState = getD (gone (λ (j : ℕ) (h : IdState). seatOf (v .bus) j h) 0 j ys) j d in
+          let h : IdState = getD (gone (λ (j : ℕ) (h : IdState). activatedIn v h) 0 j ys) j d in
           assigns ! (of-opd ! (load ! (from ! (fld ! refl (stop !))) (look-in ! 40 (sub ! 1 refl (whole !))))) (from ! (stop !)) (init ! 16 refl (tt, record { fits = room .0 })) $
           assigns ! (bin ! (load ! (from ! (stop !)) (look ! 26 refl)) (load ! (from ! (stop !)) (look ! 16 refl)) tt) (from ! (stop !)) (init ! 14 refl (tt, tt)) $
           rewrite ! 14 (λ (t : Bool). ‵ (fat fullShare tyBool l₁₄ 0 (vbool t))) e refl $ stays ! (load ! (from ! (stop !)) (look ! 14 refl)) $
           assigns ! (bin ! (load ! (from ! (stop !)) (look ! 26 refl)) (lit ! tt) (record { fits = fits })) (from ! (stop !)) (store ! 16 refl (tt, record { fits = fits })) $
           assigns ! (bin ! (load ! (from ! (fld ! refl (stop !))) (look-in ! 40 (sub ! 0 refl (whole !)))) (load ! (from ! (stop !)) (look ! 16 refl)) tt) (from ! (stop !)) (init ! 10 refl (tt, tt)) $
           rewrite ! 10 (λ (p : ℕ). ‵ (fat fullShare tyPtr l₁₆ 0 (vptr b p))) (sym (place-is (mem T.the-row .size) o j)) refl $
-          elem-out ! T.the-row (Is T.the-row) (shows 𝓤 H A T.the-row) vals (LL.tells T.the-type T′.the-laws) fullShare (gone (λ (j : ℕ) (h : IdState). seatOf (v .bus) j h) 0 j ys) j d b o within (λ is.
+          elem-out ! T.the-row (Is T.the-row) (shows 𝓤 H A T.the-row) vals (LL.tells T.the-type T′.the-laws) fullShare (gone (λ (j : ℕ) (h : IdState). activatedIn v h) 0 j ys) j d b o within (λ is.
           assigns ! (of-opd ! (load ! (from ! (hop ! (look ! 12 refl) (stop !))) (look-raw ! 0 refl))) (from ! (stop !)) (init ! 10 refl (LL.lawful T.the-type T′.the-laws 𝓤 H A W .typed h _ is .0)) $
-          move ! (1 ∷ []) $ use1 W (raw (Give 𝓤 H A mem′ run .pre (to-give v j h u))) (goes-give v j h u is-v (omega arith)) $
-          calls-at ! (fmOf 𝓤 H (W .laws) 𝓣) (Give 𝓤 H A mem′ run) (known .give-known) (to-give v j h u) (and-then ! (load ! (from ! (stop !)) (look ! 30 refl)) (and-then ! (load ! (from ! (stop !)) (look ! 28 refl)) (and-then ! (load ! (from ! (stop !)) (look ! 10 refl)) (no-more !)))) (λ v-g.
-          use1 W (later (some (λ (r : IdState). (‵ ftrue ⊛ ‵ (T.the-row .own r (v-g ∷ []))) ⊛ raw (ensured 𝓤 H A give.ended (give.clauses 𝓤 H A mem′ run) tt (v, (j, (h, tt))) tt r)))) (id⊢ 𝓤 _) $ await ! tt $ pick ! (λ g.
-          split ! $ move ! (1 ∷ []) $ use1 W (raw (fact 𝓤 (g ≡ seatOf (v .bus) j h))) (give-says 𝓤 H A mem′ run v j h g) $ heard ! (g ≡ seatOf (v .bus) j h) (λ e-g. split ! $ drop ! $
+          move ! (1 ∷ []) $ use1 W (raw (Give 𝓤 H A mem′ run .pre (to-give v h u))) (goes-give v h u is-v) $
+          calls-at ! (fmOf 𝓤 H (W .laws) 𝓣) (Give 𝓤 H A mem′ run) (known .give-known) (to-give v h u) (and-then ! (load ! (from ! (stop !)) (look ! 30 refl)) (and-then ! (load ! (from ! (stop !)) (look ! 10 refl)) (no-more !))) (λ v-g.
+          use1 W (later (some (λ (r : IdState). (‵ ftrue ⊛ ‵ (T.the-row .own r (v-g ∷ []))) ⊛ raw (ensured 𝓤 H A give.ended (give.clauses 𝓤 H A mem′ run) tt (v, (h, tt)) tt r)))) (id⊢ 𝓤 _) $ await ! tt $ pick ! (λ g.
+          split ! $ move ! (1 ∷ []) $ use1 W (raw (fact 𝓤 (g ≡ activatedIn v h))) (give-says 𝓤 H A mem′ run v h g) $ heard ! (g ≡ activatedIn v h) (λ e-g. split ! $ drop ! $
           peeks ! T.the-row (Is T.the-row) (shows 𝓤 H A T.the-row) g (v-g ∷ []) (λ is-g. land ! (from ! (stop !)) (init ! 14 refl (LL.lawful T.the-type T′.the-laws 𝓤 H A W .typed g _ is-g .0)) $
           assigns ! (bin ! (load ! (from ! (stop !)) (look ! 28 refl)) (lit ! tt) (record { fits = fits })) (from ! (stop !)) (init ! 8 refl (tt, record { fits = fits })) $
           assigns ! (bin ! (load ! (from ! (fld ! refl (stop !))) (look-in ! 42 (sub ! 0 refl (whole !)))) (load ! (from ! (stop !)) (look ! 8 refl)) tt) (from ! (stop !)) (init ! 6 refl (tt, tt)) $
           rewrite ! 6 (λ (p : ℕ). ‵ (fat fullShare tyPtr l₁₉ 0 (vptr b p))) (sym (place-is (mem T.the-row .size) o j)) refl $
           assigns ! (of-opd ! (load ! (from ! (stop !)) (look ! 14 refl))) (from ! (hop ! (look ! 6 refl) (stop !))) (store-raw ! 1 refl (LL.lawful T.the-type T′.the-laws 𝓤 H A W .typed g _ is-g .0)) $
-          move ! (1 ∷ 0 ∷ []) $ elem-put ! T.the-row fullShare (gone (λ (j : ℕ) (h : IdState). seatOf (v .bus) j h) 0 j ys) j g (v-g ∷ []) b o within $
-          rewrite ! 0 (λ (l : List IdState). ‵ (row T.the-row fullShare l b o)) (ap (set (gone (λ (j : ℕ) (h : IdState). seatOf (v .bus) j h) 0 j ys) j) e-g ∙ gone-next (λ (j : ℕ) (h : IdState). seatOf (v .bus) j h) j ys d) refl $
+          move ! (1 ∷ 0 ∷ []) $ elem-put ! T.the-row fullShare (gone (λ (j : ℕ) (h : IdState). activatedIn v h) 0 j ys) j g (v-g ∷ []) b o within $
+          rewrite ! 0 (λ (l : List IdState). ‵ (row T.the-row fullShare l b o)) (ap (set (gone (λ (j : ℕ) (h : IdState). activatedIn v h) 0 j ys) j) e-g ∙ gone-next (λ (j : ℕ) (h : IdState). activatedIn v h) j ys d) refl $
           assigns-last ! (bin ! (load ! (from ! (stop !)) (look ! 26 refl)) (lit ! tt) (record { fits = more })) (from ! (stop !)) (store ! 26 refl (tt, record { fits = more })) $
           forget ! 4 refl $ forget ! 6 refl $ forget ! 8 refl $ forget ! 10 refl $ forget ! 12 refl $ forget ! 14 refl $ forget ! 16 refl $
           again ! Nearer At₂ j (j + 1) (add-one-dec n j small))))))
@@ -284,16 +284,16 @@ module _ {M : Type 1} (𝓤 : URA M) (H : Heap 𝓤) (A : Atoms 𝓤) (W : Given
           assigns ! (of-opd ! (load ! (from ! (fld ! refl (stop !))) (look-in ! 40 (sub ! 1 refl (whole !))))) (from ! (stop !)) (init ! 16 refl (tt, record { fits = room .0 })) $
           assigns ! (bin ! (load ! (from ! (stop !)) (look ! 26 refl)) (load ! (from ! (stop !)) (look ! 16 refl)) tt) (from ! (stop !)) (init ! 14 refl (tt, tt)) $
           rewrite ! 14 (λ (t : Bool). ‵ (fat fullShare tyBool l₁₄ 0 (vbool t))) e refl $ leaves-loop ! (load ! (from ! (stop !)) (look ! 14 refl)) $ exec ! (𝓣 .C) (𝓣 .Λ) En pieces.t-7 (atRet En Post) $
-          closes-slice ! tt T.the-row ys (gone (λ (j : ℕ) (h : IdState). seatOf (v .bus) j h) 0 j ys) (gone-length (λ (j : ℕ) (h : IdState). seatOf (v .bus) j h) 0 j ys) b o $
+          closes-slice ! tt T.the-row ys (gone (λ (j : ℕ) (h : IdState). activatedIn v h) 0 j ys) (gone-length (λ (j : ℕ) (h : IdState). activatedIn v h) 0 j ys) b o $
           forget ! 13 refl $ forget ! 15 refl $
           owned ! Vr.the-row (Is Vr.the-row) (LL.makes Vr.the-type Vr′.the-plain 𝓤 H A) v _ is-v $ use1 W (raw (Reply 𝓤 H A mem′ run .pre (to-reply v u))) (goes-reply v u) $
           calls-at ! (fmOf 𝓤 H (W .laws) 𝓣) (Reply 𝓤 H A mem′ run) (known .reply-known) (to-reply v u) (and-then ! (load ! (from ! (stop !)) (look ! 28 refl)) (no-more !)) (λ v-g.
           use1 W (later (some (λ (r : Activation). (‵ ftrue ⊛ ‵ (Rs.the-row .own r (v-g ∷ []))) ⊛ raw (ensured 𝓤 H A reply.ended (reply.clauses 𝓤 H A mem′ run) tt (v, tt) tt r)))) (id⊢ 𝓤 _) $ await ! tt $ pick ! (λ g.
-          split ! $ move ! (1 ∷ []) $ use1 W (raw (fact 𝓤 (g ≡ v .answer))) (reply-says 𝓤 H A mem′ run v g) $ heard ! (g ≡ v .answer) (λ e-g. split ! $ drop ! $
+          split ! $ move ! (1 ∷ []) $ use1 W (raw (fact 𝓤 (activationReply g ≡ orderReply v))) (reply-says 𝓤 H A mem′ run v g) $ heard ! (activationReply g ≡ orderReply v) (λ e-g. split ! $ drop ! $
           facts ! Rs.the-row (Is Rs.the-row) (shows 𝓤 H A Rs.the-row) g (v-g ∷ []) (λ is-g. land ! (from ! (stop !)) (init ! 41 refl (EL.lawful Rs.the-type Rs′.the-laws 𝓤 H A W tt .typed g _ is-g .0)) $
           returns ! (look ! 41 refl) $ forget ! 25 refl $ forget ! 27 refl $ forget ! 29 refl $ forget ! 31 refl $ forget ! 33 refl $ forget ! 35 refl $ forget ! 37 refl $ forget ! 39 refl $ forget ! 41 refl $
           move ! (41 ∷ 42 ∷ []) $ free1 ! $ move ! (39 ∷ 40 ∷ []) $ free1 ! $ move ! (37 ∷ 38 ∷ []) $ free1 ! $ move ! (35 ∷ 36 ∷ []) $ free1 ! $ move ! (33 ∷ 34 ∷ []) $ free1 ! $ move ! (31 ∷ 32 ∷ []) $ free1 ! $ move ! (29 ∷ 30 ∷ []) $ free1 ! $ move ! (27 ∷ 28 ∷ []) $ free1 ! $ move ! (25 ∷ 26 ∷ []) $ free1 ! $ move ! (23 ∷ 24 ∷ []) $ free1 ! $ move ! (21 ∷ 22 ∷ []) $ free1 ! $ move ! (19 ∷ 20 ∷ []) $ free1 ! $ move ! (17 ∷ 18 ∷ []) $ free1 ! $ move ! (15 ∷ 16 ∷ []) $ free1 ! $ move ! (13 ∷ 14 ∷ []) $ free1 ! $ move ! (11 ∷ 12 ∷ []) $ free1 ! $ move ! (9 ∷ 10 ∷ []) $ free1 ! $ move ! (7 ∷ 8 ∷ []) $ free1 ! $ move ! (5 ∷ 6 ∷ []) $ free1 ! $ move ! (3 ∷ 4 ∷ []) $ free1 ! $ free0 ! $
-          by ! (exits (gone (λ (j : ℕ) (h : IdState). seatOf (v .bus) j h) 0 j ys) g v-g (ends j g (ltb-false j n e) e-g) (gone-length (λ (j : ℕ) (h : IdState). seatOf (v .bus) j h) 0 j ys) is-g room)))))
+          by ! (exits (gone (λ (j : ℕ) (h : IdState). activatedIn v h) 0 j ys) g v-g (ends j g (ltb-false j n e) e-g) (gone-length (λ (j : ℕ) (h : IdState). activatedIn v h) 0 j ys) is-g room)))))
 
       second : Sq W (‵ (row T.the-row fullShare ys b o) ∷ ‵ (fobor κ q (Held T.the-row n b o γ)) ∷ ‵ (fobs γ (codedHoleys T.the-row .code (heres T.the-row ys))) ∷ ‵ (fauth γ (codedHoleys T.the-row .code (heres T.the-row ys)))
           ∷ ‵ (froom tyPtr l₁₉ 0) ∷ ‵ (fdies tyPtr l₁₉)
@@ -318,7 +318,7 @@ module _ {M : Type 1} (𝓤 : URA M) (H : Heap 𝓤) (A : Atoms 𝓤) (W : Given
           ∷ ‵ (froom Rs′.mir l₀ 0) ∷ ‵ (fdies Rs′.mir l₀) ∷ []) (runs (𝓣 .C) (𝓣 .Λ) En pieces.t-5 (atRet En Post))
       second =
           assigns ! (of-opd ! (lit ! tt)) (from ! (stop !)) (init ! 26 refl (tt, record { fits = lit< tt })) $
-          rewrite ! 0 (λ (l : List IdState). ‵ (row T.the-row fullShare l b o)) (sym (gone-none (λ (j : ℕ) (h : IdState). seatOf (v .bus) j h) ys)) refl $
+          rewrite ! 0 (λ (l : List IdState). ‵ (row T.the-row fullShare l b o)) (sym (gone-none (λ (j : ℕ) (h : IdState). activatedIn v h) ys)) refl $
           first ! $ blocks ! $ loops ! 𝓣 Nearer Nearer-wf At₂ (λ j. turn₂ j (ltb j n) refl) 0
 
     -- the first loop
@@ -365,13 +365,13 @@ module _ {M : Type 1} (𝓤 : URA M) (H : Heap 𝓤) (A : Atoms 𝓤) (W : Given
         assigns ! (of-opd ! (load ! (from ! (hop ! (look ! 22 refl) (stop !))) (look-raw ! 0 refl))) (from ! (stop !)) (init ! 20 refl (LL.lawful T.the-type T′.the-laws 𝓤 H A W .typed h _ is .0)) $
         move ! (1 ∷ []) $ use1 W (raw (Take 𝓤 H A mem′ run .pre (to-take (t .w) h (t .v)))) (goes-take (t .w) h (t .v) (t .is)) $
         calls-at ! (fmOf 𝓤 H (W .laws) 𝓣) (Take 𝓤 H A mem′ run) (known .take-known) (to-take (t .w) h (t .v)) (and-then ! (load ! (from ! (stop !)) (look ! 34 refl)) (and-then ! (load ! (from ! (stop !)) (look ! 20 refl)) (no-more !))) (λ v-g.
-        use1 W (later (some (λ (r : Taken). (‵ ftrue ⊛ ‵ (Wk.the-row .own r (v-g ∷ []))) ⊛ raw (ensured 𝓤 H A take.ended (take.clauses 𝓤 H A mem′ run) tt ((t .w), (h, tt)) tt r)))) (id⊢ 𝓤 _) $ await ! tt $ pick ! (λ g.
-        split ! $ move ! (1 ∷ []) $ use1 W (raw (fact 𝓤 (g ≡ takenWith (t .w) h))) (take-says 𝓤 H A mem′ run (t .w) h g) $ heard ! (g ≡ takenWith (t .w) h) (λ e-g. split ! $ drop ! $
+        use1 W (later (some (λ (r : Seen). (‵ ftrue ⊛ ‵ (Wk.the-row .own r (v-g ∷ []))) ⊛ raw (ensured 𝓤 H A take.ended (take.clauses 𝓤 H A mem′ run) tt ((t .w), (h, tt)) tt r)))) (id⊢ 𝓤 _) $ await ! tt $ pick ! (λ g.
+        split ! $ move ! (1 ∷ []) $ use1 W (raw (fact 𝓤 (g ≡ seenWith (t .w) h))) (take-says 𝓤 H A mem′ run (t .w) h g) $ heard ! (g ≡ seenWith (t .w) h) (λ e-g. split ! $ drop ! $
         facts ! Wk.the-row (Is Wk.the-row) (shows 𝓤 H A Wk.the-row) g (v-g ∷ []) (λ is-g. land ! (from ! (stop !)) (store ! 33 refl (LL.lawful Wk.the-type Wk′.the-laws 𝓤 H A W .typed g _ is-g .0)) $
         owned ! T.the-row (Is T.the-row) (LL.makes T.the-type T′.the-plain 𝓤 H A) h _ is $ move ! (1 ∷ 0 ∷ []) $ elem-back ! T.the-row fullShare ys (t .i) d (vals h) b o small $
         assigns-last ! (bin ! (load ! (from ! (stop !)) (look ! 30 refl)) (lit ! tt) (record { fits = more })) (from ! (stop !)) (store ! 30 refl (tt, record { fits = more })) $
         forget ! 18 refl $ forget ! 20 refl $ forget ! 22 refl $ forget ! 24 refl $
-        again ! Nearer′ At₁ t (record { i = t .i + 1; w = g; v = v-g; is = is-g; inv = gathered-next port ys (t .i) (t .w) g d small (t .inv) e-g }) (add-one-dec n (t .i) small))))))
+        again ! Nearer′ At₁ t (record { i = t .i + 1; w = g; v = v-g; is = is-g; inv = looked-next port ys (t .i) (t .w) g d small (t .inv) e-g }) (add-one-dec n (t .i) small))))))
     turn₁ t false e =
         let full : n ≤ t .i = ltb-false (t .i) n e in
         assigns ! (of-opd ! (load ! (from ! (fld ! refl (stop !))) (look-in ! 40 (sub ! 1 refl (whole !))))) (from ! (stop !)) (init ! 24 refl (tt, record { fits = room .0 })) $
@@ -380,8 +380,8 @@ module _ {M : Type 1} (𝓤 : URA M) (H : Heap 𝓤) (A : Atoms 𝓤) (W : Given
         forget ! 22 refl $ forget ! 24 refl $
         owned ! Wk.the-row (Is Wk.the-row) (LL.makes Wk.the-type Wk′.the-plain 𝓤 H A) (t .w) _ (t .is) $ use1 W (raw (Perform 𝓤 H A mem′ run .pre (to-perform (t .w) tag base (t .v)))) (goes-perform (t .w) (t .v)) $
         calls-at ! (fmOf 𝓤 H (W .laws) 𝓣) (Perform 𝓤 H A mem′ run) (known .perform-known) (to-perform (t .w) tag base (t .v)) (and-then ! (load ! (from ! (stop !)) (look ! 33 refl)) (and-then ! (load ! (from ! (stop !)) (look ! 37 refl)) (and-then ! (load ! (from ! (stop !)) (look ! 35 refl)) (no-more !)))) (λ v-g.
-        use1 W (later (some (λ (r : AfterActivation). (‵ ftrue ⊛ ‵ (Vr.the-row .own r (v-g ∷ []))) ⊛ raw (ensured 𝓤 H A perform.ended (perform.clauses 𝓤 H A mem′ run) tt ((t .w), (tag, (base, tt))) tt r)))) (id⊢ 𝓤 _) $ await ! tt $ pick ! (λ g.
-        split ! $ move ! (1 ∷ []) $ use1 W (raw (fact 𝓤 (activatedOf g ≡ activatedIn (t .w) tag base))) (perform-says 𝓤 H A mem′ run (t .w) tag base g) $ heard ! (activatedOf g ≡ activatedIn (t .w) tag base) (λ e-g. split ! $ drop ! $
+        use1 W (later (some (λ (r : Order). (‵ ftrue ⊛ ‵ (Vr.the-row .own r (v-g ∷ []))) ⊛ raw (ensured 𝓤 H A perform.ended (perform.clauses 𝓤 H A mem′ run) tt ((t .w), (tag, (base, tt))) tt r)))) (id⊢ 𝓤 _) $ await ! tt $ pick ! (λ g.
+        split ! $ move ! (1 ∷ []) $ use1 W (raw (fact 𝓤 (g ≡ activatingOf (t .w) tag base))) (perform-says 𝓤 H A mem′ run (t .w) tag base g) $ heard ! (g ≡ activatingOf (t .w) tag base) (λ e-g. split ! $ drop ! $
         facts ! Vr.the-row (Is Vr.the-row) (shows 𝓤 H A Vr.the-row) g (v-g ∷ []) (λ is-g. land ! (from ! (stop !)) (init ! 28 refl (LL.lawful Vr.the-type Vr′.the-laws 𝓤 H A W .typed g _ is-g .0)) $
         second (t .i) (t .v) g v-g is-g (λ j r m e. activated-ends port tag base ys (t .i) j (t .w) g r (t .inv) full e-g m e)))))
 
@@ -409,11 +409,11 @@ module _ {M : Type 1} (𝓤 : URA M) (H : Heap 𝓤) (A : Atoms 𝓤) (W : Given
     begun =
         owned ! u16 (Is u16) (uint-makes 𝓤 H A W w16) port _ (refl, port-fits) $ use1 W (raw (Begin 𝓤 H A mem′ run .pre (to-begin port))) (goes-begin) $
         calls-at ! (fmOf 𝓤 H (W .laws) 𝓣) (Begin 𝓤 H A mem′ run) (known .begin-known) (to-begin port) (and-then ! (load ! (from ! (stop !)) (look ! 39 refl)) (no-more !)) (λ v-g.
-        use1 W (later (some (λ (r : Taken). (‵ ftrue ⊛ ‵ (Wk.the-row .own r (v-g ∷ []))) ⊛ raw (ensured 𝓤 H A begin.ended (begin.clauses 𝓤 H A mem′ run) tt (port, tt) tt r)))) (id⊢ 𝓤 _) $ await ! tt $ pick ! (λ g.
-        split ! $ move ! (1 ∷ []) $ use1 W (raw (fact 𝓤 (g ≡ emptied port))) (begin-says 𝓤 H A mem′ run port g) $ heard ! (g ≡ emptied port) (λ e-g. split ! $ drop ! $
+        use1 W (later (some (λ (r : Seen). (‵ ftrue ⊛ ‵ (Wk.the-row .own r (v-g ∷ []))) ⊛ raw (ensured 𝓤 H A begin.ended (begin.clauses 𝓤 H A mem′ run) tt (port, tt) tt r)))) (id⊢ 𝓤 _) $ await ! tt $ pick ! (λ g.
+        split ! $ move ! (1 ∷ []) $ use1 W (raw (fact 𝓤 (g ≡ unseen port))) (begin-says 𝓤 H A mem′ run port g) $ heard ! (g ≡ unseen port) (λ e-g. split ! $ drop ! $
         facts ! Wk.the-row (Is Wk.the-row) (shows 𝓤 H A Wk.the-row) g (v-g ∷ []) (λ is-g. land ! (from ! (stop !)) (init ! 32 refl (LL.lawful Wk.the-type Wk′.the-laws 𝓤 H A W .typed g _ is-g .0)) $
         assigns ! (of-opd ! (lit ! tt)) (from ! (stop !)) (init ! 30 refl (tt, record { fits = lit< tt })) $
-        first ! $ blocks ! $ loops ! 𝓣 Nearer′ Nearer′-wf At₁ (λ t. turn₁ t (ltb (t .i) n) refl) (record { i = 0; w = g; v = v-g; is = is-g; inv = gathered-none port ys g e-g })))))
+        first ! $ blocks ! $ loops ! 𝓣 Nearer′ Nearer′-wf At₁ (λ t. turn₁ t (ltb (t .i) n) refl) (record { i = 0; w = g; v = v-g; is = is-g; inv = looked-none port ys g e-g })))))
 
   walk : (𝓣 : Tables 𝓤 H) → Known 𝓤 H A mem′ run 𝓣 → Room T.the-row n → ent 𝓤 (onEntry 𝓤 H A call.signature (κ, tt) (q, tt) a at-entry) (WpFn 𝓤 H (𝓣 .C) (𝓣 .Λ) code.function (s ∷ vint w16 port ∷ vint w8 tag ∷ vint w8 base ∷ []) Post)
   walk 𝓣 known room =
@@ -442,9 +442,9 @@ activate-spec 𝓤 H 𝓜 𝓖 𝓡 =
     entered 𝓤 H (tripleOf 𝓤 H (𝓖 .A) call.signature (call.spec 𝓤 H (𝓖 .A) (𝓜 .mem) (𝓡 .run)))
     (tables 𝓤 H 𝓜 𝓡 code.env .C) (tables 𝓤 H 𝓜 𝓡 code.env .Λ) #lent-port·activate code.function (code.unfolded 𝓤 H 𝓜 𝓡)
     (meets 𝓤 H (𝓖 .A) (givenOf 𝓤 H 𝓜 𝓖) (𝓜 .mem) (𝓡 .run) (tablesOf 𝓤 H 𝓜 (tables 𝓤 H 𝓜 𝓡 code.env)) (record {
-      begin-known = cited 𝓤 H (Begin 𝓤 H (𝓖 .A) (𝓜 .mem) (𝓡 .run)) 𝓜 𝓡 code.env #lent-port·seats·empty begin-def.routine code.calls-lent-port·seats·empty (begin-thm.met 𝓤 H 𝓜 𝓖 𝓡);
-      take-known = cited 𝓤 H (Take 𝓤 H (𝓖 .A) (𝓜 .mem) (𝓡 .run)) 𝓜 𝓡 code.env #lent-port·seats·take take-def.routine code.calls-lent-port·seats·take (take-thm.met 𝓤 H 𝓜 𝓖 𝓡);
-      perform-known = cited 𝓤 H (Perform 𝓤 H (𝓖 .A) (𝓜 .mem) (𝓡 .run)) 𝓜 𝓡 code.env #lent-port·seats·activated perform-def.routine code.calls-lent-port·seats·activated (perform-thm.met 𝓤 H 𝓜 𝓖 𝓡);
-      give-known = cited 𝓤 H (Give 𝓤 H (𝓖 .A) (𝓜 .mem) (𝓡 .run)) 𝓜 𝓡 code.env #lent-port·seats·activated-at give-def.routine code.calls-lent-port·seats·activated-at (give-thm.met 𝓤 H 𝓜 𝓖 𝓡);
-      reply-known = cited 𝓤 H (Reply 𝓤 H (𝓖 .A) (𝓜 .mem) (𝓡 .run)) 𝓜 𝓡 code.env #lent-port·seats·activation-answer reply-def.routine code.calls-lent-port·seats·activation-answer (reply-thm.met 𝓤 H 𝓜 𝓖 𝓡);
+      begin-known = cited 𝓤 H (Begin 𝓤 H (𝓖 .A) (𝓜 .mem) (𝓡 .run)) 𝓜 𝓡 code.env #lent-port·look·begin begin-def.routine code.calls-lent-port·look·begin (begin-thm.met 𝓤 H 𝓜 𝓖 𝓡);
+      take-known = cited 𝓤 H (Take 𝓤 H (𝓖 .A) (𝓜 .mem) (𝓡 .run)) 𝓜 𝓡 code.env #lent-port·look·at take-def.routine code.calls-lent-port·look·at (take-thm.met 𝓤 H 𝓜 𝓖 𝓡);
+      perform-known = cited 𝓤 H (Perform 𝓤 H (𝓖 .A) (𝓜 .mem) (𝓡 .run)) 𝓜 𝓡 code.env #lent-port·look·activating perform-def.routine code.calls-lent-port·look·activating (perform-thm.met 𝓤 H 𝓜 𝓖 𝓡);
+      give-known = cited 𝓤 H (Give 𝓤 H (𝓖 .A) (𝓜 .mem) (𝓡 .run)) 𝓜 𝓡 code.env #lent-port·look·activated give-def.routine code.calls-lent-port·look·activated (give-thm.met 𝓤 H 𝓜 𝓖 𝓡);
+      reply-known = cited 𝓤 H (Reply 𝓤 H (𝓖 .A) (𝓜 .mem) (𝓡 .run)) 𝓜 𝓡 code.env #lent-port·look·activate-answer reply-def.routine code.calls-lent-port·look·activate-answer (reply-thm.met 𝓤 H 𝓜 𝓖 𝓡);
     }))

@@ -1,36 +1,10 @@
-// What is gathered over the cards on one ID port, and the tests of the calls' arguments.
+// Whether the cards on one ID port are sound, and the tests of the calls' arguments.
 ghost use mathlib.Core.Path.{_≡_};
-ghost use Prim.Native.Nat.{_≤_, min};
+ghost use Prim.Native.Nat.{min};
 ghost use lib.ListN.{take};
-ghost use Rattle.port_rules.specs.Gathered.{portBit, allSound, isPort, naming, digitOf};
-use crate::id_bit;
+ghost use Rattle.port_rules.specs.Gathered.{allSound, isPort, naming, digitOf};
 use crate::id_sound;
 use port_rules::IdState;
-
-fn least(a: u8, b: u8) -> u8
-    ensures { λ r. ⌜ r ≡ min a b ⌝ }
-{
-    if a < b {
-        return a;
-    }
-    b
-}
-
-// What the bus carries with the first `n` cards there: 1, unless a card drives a 0. A port is its x in 1x0h.
-pub fn carried(cards: [IdState; 8], n: usize, port: u8) -> u8
-    requires { ⌜ n ≤ 8 ⌝ }
-    ensures { λ r. ⌜ r ≡ portBit port (take n cards) ⌝ }
-{
-    let mut bit: u8 = 1;
-    let mut i: usize = 0;
-    while i < n {
-        let c = cards[i];
-        let mine = id_bit(c, port);
-        bit = least(bit, mine);
-        i += 1;
-    }
-    bit
-}
 
 // How many cards there are to test: no more than there are places.
 fn at_most_eight(n: usize) -> usize

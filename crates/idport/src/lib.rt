@@ -4,7 +4,7 @@ ghost use Rattle.port_rules.specs.Sound.{Every-step-keeps-soundness};
 ghost use Rattle.port_rules.specs.Contracts as contract;
 use port_rules::IdState;
 
-pub mod cards; // cards.rt: what is gathered over the cards on one ID port, and the tests of the calls' arguments
+pub mod cards; // cards.rt: whether the cards on one ID port are sound, and the tests of the calls' arguments
 mod command;
 mod contend;
 pub mod one_card; // one_card.rt: one card's steps at the ID port
@@ -12,7 +12,6 @@ pub mod sequence;
 mod wait;
 
 pub use cards::all_sound;
-pub use cards::carried;
 pub use cards::digit;
 pub use cards::is_port;
 pub use cards::names;

@@ -11,7 +11,7 @@ use Rattle.bits.proofs.Tests.{both}
 use Rattle.port_rules.specs.declared.IdState.{IdState}
 use Rattle.port_rules.specs.Card.{idWrite, idDrives, idBit, idAfterRead}
 use Rattle.port_rules.specs.Port.{Access, write, read, value, after, Talk, done, ask, Ran, run, portWrite, portBit, portRead}
-use Rattle.port_rules.proofs.Cards.{bit-narrow}
+use Rattle.port_rules.proofs.Gathering.{bit-narrow}
 use Rattle.lent_port.specs.Roll.{away}
 
 module _ (p : ℕ) (s : IdState) (e : away p s ≡ true) where

@@ -18,7 +18,7 @@ use Rattle.port_rules.specs.declared.Activation.{Activation}
 use Rattle.port_rules.specs.Port.{portWrite, portBit, portRead, run}
 use Rattle.port_rules.specs.Search.{activate}
 use Rattle.port_rules.specs.Calls.{Reply, refused, told, wroteReply, bitReply, activationReply, padded, allSound, allowed, naming, digitOf, judged, ended, activated, portWrites, portReads, activatesCard}
-use Rattle.port_rules.proofs.Cards.{bit-turn, sound-turn}
+use Rattle.port_rules.proofs.Gathering.{bit-turn, sound-turn}
 use Rattle.lent_port.specs.declared.look.Seen.{Seen}
 use Rattle.lent_port.specs.declared.look.Step.{Step}
 use Rattle.lent_port.specs.declared.look.Order.{Order}

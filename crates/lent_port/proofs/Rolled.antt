@@ -16,7 +16,7 @@ use Rattle.port_rules.specs.Sound.{idSound}
 use Rattle.port_rules.specs.Port.{held, run}
 use Rattle.port_rules.specs.Search.{search, allOnes}
 use Rattle.port_rules.specs.Calls.{refused, told, foundReply, padded, allSound, allowed, digitOf, judged, ended, searched, findsCards}
-use Rattle.port_rules.proofs.Cards.{sound-turn}
+use Rattle.port_rules.proofs.Gathering.{sound-turn}
 use Rattle.port_rules.specs.Lent.{lent, foundOver}
 use Rattle.found.specs.Theorems.{All}
 use Rattle.lent_port.specs.declared.roll.Roll.{Roll}

@@ -3,20 +3,15 @@
 use Prim.Native.Nat.{ℕ, zero, suc, _+_, _<_, _≤_, min}
 use mathlib.Core.Path.{_≡_, sym, _∙_, ap}
 use mathlib.Core.Bool.{Bool, _&&_, and-true, and-assoc}
-use mathlib.Core.List.{List, [], _∷_, _++_, map}
+use mathlib.Core.List.{List, [], _∷_, _++_}
 use native.Mathlib.Omega.{arith}
 use native.Mathlib.Numerals.{add-one}
-use lib.ListN.{length, getD, take, length-map}
+use lib.ListN.{length, getD, take}
 use lib.Seq.{take-suc}
-use Rattle.port_rules.proofs.IdState as IdS
 use Rattle.port_rules.specs.declared.IdState.{IdState}
 use Rattle.port_rules.specs.Card.{idBit}
 use Rattle.port_rules.specs.Sound.{idSound}
 use Rattle.port_rules.specs.Gathered.{portBit, allSound}
-
--- the cards' array has eight places
-pub eight : (xs : List IdState) → length (map (IdS.the-field .into) xs) ≡ 8 → length xs ≡ 8
-eight xs e = sym (length-map xs (IdS.the-field .into)) ∙ e
 
 -- a turn of a loop that gathers the card at i
 turn : {Y : Type 0} (gather : List IdState → Y) (more : Y → IdState → Y) → ((xs : List IdState) (s : IdState) → gather (xs ++ (s ∷ [])) ≡ more (gather xs) s) →

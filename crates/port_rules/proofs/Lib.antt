@@ -7,5 +7,4 @@ pub mod IdportExamples
 pub mod Gathering
 pub mod PortCardsExamples
 -- the port, the talks, what the public calls come to
-pub mod Cards
 pub mod SearchExamples

@@ -8,7 +8,6 @@ use Rattle.port_rules.specs.declared.IdState.{IdState}
 use Rattle.port_rules.specs.declared.Bus.{Bus}
 use Rattle.port_rules.specs.declared.Wrote.{Wrote}
 use Rattle.port_rules.specs.declared.Bit.{Bit}
-use Rattle.port_rules.specs.declared.AfterSearch.{AfterSearch}
 use Rattle.port_rules.specs.declared.Activation.{Activation}
 use Rattle.port_rules.specs.Port.{held}
 use Rattle.port_rules.specs.Calls.{Outcome, wroteReply, bitReply, foundReply, activationReply, padded, portWrites, portReads, findsCards, activatesCard}
@@ -30,10 +29,6 @@ foundOver r cards = record { reply = foundReply (r .answer); places = r .address
 
 abbrev pub activatedOver : Activation → List IdState → Outcome
 activatedOver r cards = record { reply = activationReply r; places = padded []; bus = lent cards }
-
--- what a search by value answers, without its bus
-abbrev pub listedOf : AfterSearch → Listed
-listedOf v = record { answer = v .answer; addresses = v .addresses }
 
 -- Two outcomes with the same answer, the same places and the same cards there.
 pub record Alike (o u : Outcome) : Type 0 where

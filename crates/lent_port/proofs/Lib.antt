@@ -7,4 +7,3 @@ pub mod Loops
 pub mod Ones
 pub mod Rolled
 pub mod Slices
-pub mod Turns

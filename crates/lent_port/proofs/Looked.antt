@@ -26,7 +26,9 @@ use Rattle.port_rules.specs.Lent.{lent, wroteOver, readOver, activatedOver}
 use Rattle.lent_port.specs.Roll.{activatedBy}
 use Rattle.lent_port.specs.Steps.{unseen, seenWith, portFits, stepOf, writingOf, readingOf, activatingOf, writtenBy, heardBy, activatedIn, replyOf, orderReply}
 use Rattle.lent_port.proofs.CardByCard.{activates}
-use Rattle.lent_port.proofs.Turns.{gone, gone-map, map-same}
+use Rattle.bits.specs.UpTo.{upTo}
+use Rattle.bits.proofs.UpTo.{upTo-all}
+use Rattle.found.proofs.Run.{map-same}
 use Rattle.lent_port.proofs.Slices.{held-lent, seated-lent, fits-lent, write-length, read-length, unsound-lent, outside-lent, goes-lent}
 
 pub record Looked (port : ℕ) (ys : List IdState) (i : ℕ) (w : Seen) : Type 0 where
@@ -76,27 +78,27 @@ blank true = refl
 blank false = refl
 
 pub wrote-ends : (port byte : ℕ) (ys : List IdState) (i j : ℕ) (w : Seen) (t : Step) (r : Wrote) → Looked port ys i w → length ys ≤ i → t ≡ writingOf w byte → length ys ≤ j → wroteReply r ≡ replyOf t [] →
-    wroteOver r (gone (λ _ s. writtenBy t s) 0 j ys) ≡ portWrites (lent ys) port byte
+    wroteOver r (upTo (writtenBy t) j ys) ≡ portWrites (lent ys) port byte
 unfolding portWrite
 wrote-ends port byte ys i j w t r g full e m a =
     let is = stepped port byte ys i w t g full e in
-    comes (allSound ys) (allowed (lent ys) port) ys (gone (λ _ s. writtenBy t s) 0 j ys) (λ s. idWrite s (digitOf port) byte) [] [] (padded []) (wroteReply r) refl
+    comes (allSound ys) (allowed (lent ys) port) ys (upTo (writtenBy t) j ys) (λ s. idWrite s (digitOf port) byte) [] [] (padded []) (wroteReply r) refl
     (a ∙ ap (λ (u : Step). replyOf u []) is)
     (blank (allSound ys && allowed (lent ys) port))
-    (gone-map (writtenBy t) 0 j ys m ∙ ap (λ (u : Step). map (writtenBy u) ys) is)
+    (upTo-all (writtenBy t) j ys m ∙ ap (λ (u : Step). map (writtenBy u) ys) is)
     (write-length (digitOf port) byte ys)
     ∙ ap (λ (l : List IdState). judged (lent ys) (allowed (lent ys) port) (ended (lent ys) [] [] (portWrite (digitOf port) byte l))) (sym (held-lent ys))
 
 pub heard-ends : (port : ℕ) (ys : List IdState) (i j : ℕ) (w : Seen) (t : Step) (r : Bit) → Looked port ys i w → length ys ≤ i → t ≡ readingOf w → length ys ≤ j → bitReply r ≡ replyOf t (t .value ∷ []) →
-    readOver r (gone (λ _ s. heardBy t s) 0 j ys) ≡ portReads (lent ys) port
+    readOver r (upTo (heardBy t) j ys) ≡ portReads (lent ys) port
 unfolding portRead
 heard-ends port ys i j w t r g full e m a =
     let bit : w .bit ≡ portBit (digitOf port) ys = g .carries ∙ ap (portBit (digitOf port)) (take-all i ys full) in
     let is = stepped port (portBit (digitOf port) ys) ys i w t g full (e ∙ ap (stepOf w) bit) in
-    comes (allSound ys) (allowed (lent ys) port) ys (gone (λ _ s. heardBy t s) 0 j ys) (λ s. idAfterRead s (digitOf port) (portBit (digitOf port) ys)) (portBit (digitOf port) ys ∷ []) [] (padded []) (bitReply r) refl
+    comes (allSound ys) (allowed (lent ys) port) ys (upTo (heardBy t) j ys) (λ s. idAfterRead s (digitOf port) (portBit (digitOf port) ys)) (portBit (digitOf port) ys ∷ []) [] (padded []) (bitReply r) refl
     (a ∙ ap (λ (u : Step). replyOf u (u .value ∷ [])) is)
     (blank (allSound ys && allowed (lent ys) port))
-    (gone-map (heardBy t) 0 j ys m ∙ ap (λ (u : Step). map (heardBy u) ys) is)
+    (upTo-all (heardBy t) j ys m ∙ ap (λ (u : Step). map (heardBy u) ys) is)
     (read-length (digitOf port) ys)
     ∙ ap (λ (l : List IdState). judged (lent ys) (allowed (lent ys) port) (ended (lent ys) (portBit (digitOf port) l ∷ []) [] (portRead (digitOf port) l))) (sym (held-lent ys))
 
@@ -134,7 +136,7 @@ commands false x tag base ys sound few e = go sound few
     go false b = refl
 
 pub activated-ends : (port tag base : ℕ) (ys : List IdState) (i j : ℕ) (w : Seen) (o : Order) (r : Activation) → Looked port ys i w → length ys ≤ i → o ≡ activatingOf w tag base → length ys ≤ j → activationReply r ≡ orderReply o →
-    activatedOver r (gone (λ _ s. activatedIn o s) 0 j ys) ≡ activatesCard (lent ys) port tag base
+    activatedOver r (upTo (activatedIn o) j ys) ≡ activatesCard (lent ys) port tag base
 unfolding run
 activated-ends port tag base ys i j w o r g full e m a =
     let same : i ≡ length ys = omega (arith, g .within) in
@@ -146,10 +148,10 @@ activated-ends port tag base ys i j w o r g full e m a =
     e ∙ (λ k. record { sound = sound k; fit = fit k && naming tag base; x = digitOf (g .asked k); test = cond (naming tag base) (216 + tag) 0; activate = cond (naming tag base) (224 + base) 0 }) in
     let f : IdState → IdState = activatedBy x (216 + tag) (224 + base) in
     let l = activates x tag base ys in
-    comes (allSound ys) ok ys (gone (λ _ s. activatedIn o s) 0 j ys) f (259 ∷ []) [] (padded []) (activationReply r) refl
+    comes (allSound ys) ok ys (upTo (activatedIn o) j ys) f (259 ∷ []) [] (padded []) (activationReply r) refl
     (a ∙ ap orderReply is)
     (blank (allSound ys && ok))
-    (gone-map (activatedIn o) 0 j ys m ∙ ap (λ (u : Order). map (activatedIn u) ys) is ∙ commands (naming tag base) x tag base ys (allSound ys) (allowed (lent ys) port) refl)
+    (upTo-all (activatedIn o) j ys m ∙ ap (λ (u : Order). map (activatedIn u) ys) is ∙ commands (naming tag base) x tag base ys (allSound ys) (allowed (lent ys) port) refl)
     (length-map ys f)
     ∙ (λ k. judged (lent ys) ok (ended (lent ys) (sym (l .counted) k ∷ []) [] (sym (l .left) k)))
     ∙ ap (λ (cs : List IdState). judged (lent ys) ok (activated (lent ys) (run x (activate tag base) cs))) (sym (held-lent ys))

@@ -23,7 +23,8 @@ use Rattle.lent_port.specs.declared.roll.Roll.{Roll}
 use Rattle.lent_port.specs.declared.roll.Finding.{Finding}
 use Rattle.lent_port.specs.Roll.{takesPart, Worded, found, roundsCost, searchedBy}
 use Rattle.lent_port.specs.Steps.{portFits, unrolled, rolledWith, findingOf, searchedIn, Lists}
-use Rattle.lent_port.proofs.Turns.{gone, gone-map}
+use Rattle.bits.specs.UpTo.{upTo}
+use Rattle.bits.proofs.UpTo.{upTo-all}
 use Rattle.lent_port.proofs.Slices.{held-lent, fits-lent, few}
 use Rattle.lent_port.proofs.Looked.{comes}
 use Rattle.lent_port.proofs.Ones.{real-more, found-real}
@@ -143,7 +144,7 @@ module _ (port : ℕ) (ys : List IdState) where
       ∙ ap (λ (l : List IdState). judged (lent ys) ok (searched (lent ys) (run x search l))) (sym (held-lent ys))
 
 pub found-ends : (port : ℕ) (ys : List IdState) (i j : ℕ) (w : Roll) (v : Finding) (r : Listed) → Rolled port ys i w → length ys ≤ i → v ≡ findingOf w → length ys ≤ j → Lists v r →
-    foundOver r (gone (λ _ s. searchedIn v s) 0 j ys) ≡ findsCards (lent ys) port
+    foundOver r (upTo (searchedIn v) j ys) ≡ findsCards (lent ys) port
 found-ends port ys i j w v r g full e m a =
     let same : i ≡ length ys = omega (arith, g .within) in
     let sound : w .sound ≡ allSound ys = g .sound ∙ ap allSound (take-all i ys full) in
@@ -152,7 +153,7 @@ found-ends port ys i j w v r g full e m a =
     let is : v ≡ finds port ys (allSound ys) (allowed (lent ys) port) fs = e ∙ (λ k. record { sound = sound k; fit = fit k; x = digitOf (g .asked k); addresses = padded fs; count = length fs; accesses = 258 + roundsCost (length fs) 7 }) in
     let words : All Worded ys = subst (All Worded) (take-all i ys full) (g .worded) in
     let p< : digitOf port < 16 = omega arith in
-    ends port ys (allSound ys) (allowed (lent ys) port) fs v r (gone (λ _ s. searchedIn v s) 0 j ys) refl
+    ends port ys (allSound ys) (allowed (lent ys) port) fs v r (upTo (searchedIn v) j ys) refl
     (λ q. all-entered port ys w (g .entered ∙ ap (λ (n : ℕ). map (takesPart (digitOf port)) (take (min n 8) ys) ++ replicate (8 - min n 8) allOnes) same) (few (lent ys) port q))
-    is a (gone-map (searchedIn v) 0 j ys m)
+    is a (upTo-all (searchedIn v) j ys m)
     ∙ told-by port ys (searches (digitOf port) ys p< words) (allowed (lent ys) port)

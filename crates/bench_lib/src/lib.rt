@@ -4,10 +4,7 @@ use bench_state::lines;
 use libc::STDOUT_FILENO;
 
 mod driver_lines; // driver_lines.rt: the driver's calls
-mod host_lines; // host_lines.rt: the host's accesses
-mod port_lines; // port_lines.rt: the ID port
 mod session; // session.rt: one line of a script
-mod wire_lines; // wire_lines.rt: what the wire does: a frame that comes, and the outcome of a packet that goes
 
 // The state between two pieces: the bench, and how many characters of an unfinished line stand in the line's room; 8,194 for too many.
 pub struct Playing {

@@ -1,8 +1,8 @@
 // What each line of a script does to the bench's state.
 use crate::driver_lines;
-use crate::host_lines;
-use crate::port_lines;
-use crate::wire_lines;
+use bench_lines::host_lines;
+use bench_lines::port_lines;
+use bench_lines::wire_lines;
 use bench_rules::Kind;
 use bench_rules::Line;
 use bench_rules::Reply;

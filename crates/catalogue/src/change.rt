@@ -2,7 +2,6 @@
 use crate::refused;
 use catalogue_lib::files;
 use catalogue_lib::lock;
-use catalogue_lib::text;
 use catalogue_rules::Seek;
 use catalogue_rules::Written;
 
@@ -11,7 +10,7 @@ fn say_version(file: &[u8], image: &[u8]) {
     let address = catalogue_add::address_of(image);
     match catalogue_put::card_place(file, address) {
         Seek::Missing => {}
-        Seek::Behind(at) => text::added(catalogue_put::last_number(file, at), address),
+        Seek::Behind(at) => catalogue_text::added(catalogue_put::last_number(file, at), address),
     }
 }
 
@@ -20,7 +19,7 @@ fn put_added(path: &[u8], file: &[u8], image: &[u8]) {
     if !files::put(path, file) {
         return;
     }
-    if text::is_dash(path) {
+    if catalogue_text::is_dash(path) {
         return;
     }
     say_version(file, image);
@@ -48,8 +47,8 @@ fn add_to(path: &[u8], from: &[u8]) {
 }
 
 pub fn add(path: &[u8], from: &[u8]) {
-    if text::is_dash(path) & text::is_dash(from) {
-        text::usage();
+    if catalogue_text::is_dash(path) & catalogue_text::is_dash(from) {
+        catalogue_text::usage();
         return;
     }
     if !lock::take(path) {
@@ -76,9 +75,9 @@ fn drop_from(path: &[u8], address: u64) {
 }
 
 pub fn drop(path: &[u8], address: &[u8]) {
-    let who = text::address(address);
+    let who = catalogue_text::address(address);
     if !who.ok {
-        text::usage();
+        catalogue_text::usage();
         return;
     }
     if !lock::take(path) {

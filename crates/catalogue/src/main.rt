@@ -1,5 +1,4 @@
-// The catalogue at a shell: `catalogue list FILE` and the other commands that `text::usage` names.
-use catalogue_lib::text;
+// The catalogue at a shell: `catalogue list FILE` and the other commands that `catalogue_text::usage` names.
 use check::same;
 
 mod change;
@@ -21,7 +20,7 @@ fn archive(inward: bool, words: usize, one: &[u8], two: &[u8], three: &[u8]) {
     } else if (words == 5) & !first & !second & third {
         moving::archive(inward, one, two, true);
     } else {
-        text::usage();
+        catalogue_text::usage();
     }
 }
 
@@ -48,7 +47,7 @@ fn run(words: usize, verb: &[u8], one: &[u8], two: &[u8], three: &[u8], four: &[
     } else if same(verb, b"export") {
         archive(false, words, one, two, three);
     } else {
-        text::usage();
+        catalogue_text::usage();
     }
 }
 
@@ -75,7 +74,7 @@ fn main() {
     let d = os::arg(5, &mut four);
     whole = was_whole() & whole;
     if !whole {
-        text::warn(b"an argument is longer than 4,096 bytes\n");
+        catalogue_text::warn(b"an argument is longer than 4,096 bytes\n");
         return;
     }
     run(

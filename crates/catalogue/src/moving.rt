@@ -2,14 +2,13 @@
 use crate::refused;
 use catalogue_lib::files;
 use catalogue_lib::lock;
-use catalogue_lib::text;
 use catalogue_rules::Judged;
 use catalogue_rules::Written;
 use refusal::Refusal;
 
 // Whether a file with at least a byte stands at the path.
 fn has_bytes(path: &[u8]) -> bool {
-    if text::is_dash(path) {
+    if catalogue_text::is_dash(path) {
         return false;
     }
     let mut start = [0u8; 1];
@@ -19,7 +18,7 @@ fn has_bytes(path: &[u8]) -> bool {
 
 // Whether a sound catalogue stands at the path, the one that is moved out among them.
 fn has_catalogue(path: &[u8]) -> bool {
-    if text::is_dash(path) {
+    if catalogue_text::is_dash(path) {
         return false;
     }
     let mut room = files::room();
@@ -43,13 +42,13 @@ fn is_kept(inward: bool, path: &[u8]) -> bool {
     if inward {
         let stands = has_bytes(path);
         if stands {
-            text::stands(path);
+            catalogue_text::stands(path);
         }
         return stands;
     }
     let stands = has_catalogue(path);
     if stands {
-        text::catalogue_stands(path);
+        catalogue_text::catalogue_stands(path);
     }
     stands
 }

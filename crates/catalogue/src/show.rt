@@ -1,7 +1,6 @@
 // The commands that change nothing.
 use crate::refused;
 use catalogue_lib::files;
-use catalogue_lib::text;
 use catalogue_rules::Hit;
 use catalogue_rules::Judged;
 use catalogue_rules::Place;
@@ -10,10 +9,10 @@ use image_rules::WordOffset;
 // A sound file: its cards, or how many there are.
 fn say_sound(file: &[u8], cards: usize, fields: usize, lists: bool) {
     if lists {
-        text::cards(file);
+        catalogue_text::cards(file);
         return;
     }
-    text::sound(cards, fields);
+    catalogue_text::sound(cards, fields);
 }
 
 // The command `check`, or `list` where it lists.
@@ -35,15 +34,15 @@ fn put(file: &[u8], address: u64, place: Place) {
     match place {
         Place::Refused(why) => refused::version(file, address, why),
         Place::At { start, len } => {
-            text::told(text::tell(catalogue_lookup::part(file, start, len)));
+            catalogue_text::told(catalogue_text::tell(catalogue_lookup::part(file, start, len)));
         }
     }
 }
 
 pub fn latest(path: &[u8], address: &[u8]) {
-    let who = text::address(address);
+    let who = catalogue_text::address(address);
     if !who.ok {
-        text::usage();
+        catalogue_text::usage();
         return;
     }
     let mut room = files::room();
@@ -57,10 +56,10 @@ pub fn latest(path: &[u8], address: &[u8]) {
 }
 
 pub fn given(path: &[u8], address: &[u8], version: &[u8]) {
-    let who = text::address(address);
-    let which = text::version(version);
+    let who = catalogue_text::address(address);
+    let which = catalogue_text::version(version);
     if !who.ok | !which.ok {
-        text::usage();
+        catalogue_text::usage();
         return;
     }
     let mut room = files::room();
@@ -80,7 +79,7 @@ fn compare_word(old: &[u8], new: &[u8], word: usize) -> bool {
     if before == now {
         return true;
     }
-    text::changed(word, before, now)
+    catalogue_text::changed(word, before, now)
 }
 
 // A line for each word that differs.
@@ -89,7 +88,7 @@ fn compare(old: &[u8], new: &[u8]) {
     for word in 0..64 {
         whole = compare_word(old, new, word) & whole;
     }
-    text::told(whole);
+    catalogue_text::told(whole);
 }
 
 // Whether a card or version is not there.
@@ -123,11 +122,11 @@ fn put_changes(file: &[u8], address: u64, old: Place, new: Place) {
 }
 
 pub fn diff(path: &[u8], address: &[u8], old: &[u8], new: &[u8]) {
-    let who = text::address(address);
-    let before = text::version(old);
-    let now = text::version(new);
+    let who = catalogue_text::address(address);
+    let before = catalogue_text::version(old);
+    let now = catalogue_text::version(new);
     if !who.ok | !before.ok | !now.ok {
-        text::usage();
+        catalogue_text::usage();
         return;
     }
     let mut room = files::room();
@@ -142,9 +141,9 @@ pub fn diff(path: &[u8], address: &[u8], old: &[u8], new: &[u8]) {
 }
 
 pub fn lookup(override_path: &[u8], path: &[u8], address: &[u8]) {
-    let who = text::address(address);
-    if !who.ok | (text::is_dash(override_path) & text::is_dash(path)) {
-        text::usage();
+    let who = catalogue_text::address(address);
+    if !who.ok | (catalogue_text::is_dash(override_path) & catalogue_text::is_dash(path)) {
+        catalogue_text::usage();
         return;
     }
     let mut own = files::room();
@@ -164,5 +163,9 @@ pub fn lookup(override_path: &[u8], path: &[u8], address: &[u8]) {
         refused::lookup(&own[..n], override_path, &main[..k], path, why);
         return;
     }
-    text::told(text::tell(catalogue_lookup::image_of(&own[..n], &main[..k], hit)));
+    catalogue_text::told(catalogue_text::tell(catalogue_lookup::image_of(
+        &own[..n],
+        &main[..k],
+        hit,
+    )));
 }

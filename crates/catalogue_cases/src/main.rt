@@ -3,7 +3,6 @@
 // has the bytes it is to write; - for none.
 ghost use Prim.Native.Nat.{_+_, _<_};
 use catalogue_lib::files;
-use catalogue_lib::text;
 use catalogue_rules::Hit;
 use catalogue_rules::Judged;
 use catalogue_rules::Place;
@@ -13,9 +12,9 @@ use libc::STDOUT_FILENO;
 use refusal::Refusal;
 
 fn refused(why: Refusal) {
-    text::tell(b"refused ");
+    catalogue_text::tell(b"refused ");
     io::print_decimal(STDOUT_FILENO, refusal::number(why) as u64);
-    text::tell(b"\n");
+    catalogue_text::tell(b"\n");
 }
 
 fn check(a: &[u8]) {
@@ -24,16 +23,16 @@ fn check(a: &[u8]) {
     let n = got.len;
     match catalogue_read::check(&room[..n]) {
         Judged::Refused(why) => refused(why),
-        Judged::Sound { cards, fields } => text::sound(cards, fields),
+        Judged::Sound { cards, fields } => catalogue_text::sound(cards, fields),
     }
 }
 
 fn at(what: &[u8], start: usize, len: usize) {
-    text::tell(what);
+    catalogue_text::tell(what);
     io::print_decimal(STDOUT_FILENO, len as u64);
-    text::tell(b" bytes at ");
+    catalogue_text::tell(b" bytes at ");
     io::print_decimal(STDOUT_FILENO, start as u64);
-    text::tell(b"\n");
+    catalogue_text::tell(b"\n");
 }
 
 fn place(found: Place) {
@@ -47,7 +46,7 @@ fn latest(a: &[u8], b: &[u8]) {
     let mut room = files::room();
     let got = files::read(a, &mut room);
     let n = got.len;
-    let who = text::address(b);
+    let who = catalogue_text::address(b);
     place(catalogue_lookup::latest(&room[..n], who.value));
 }
 
@@ -56,7 +55,7 @@ fn given(a: &[u8], b: &[u8], number: u16) {
     let mut room = files::room();
     let got = files::read(a, &mut room);
     let n = got.len;
-    let who = text::address(b);
+    let who = catalogue_text::address(b);
     place(catalogue_lookup::given(&room[..n], who.value, number));
 }
 
@@ -68,7 +67,7 @@ fn lookup(a: &[u8], b: &[u8], address: &[u8]) {
     let mut main = files::room();
     let second = files::read(b, &mut main);
     let k = second.len;
-    let who = text::address(address);
+    let who = catalogue_text::address(address);
     match catalogue_lookup::lookup(&own[..n], &main[..k], who.value) {
         Hit::Nowhere(why) => refused(why),
         Hit::InOverride { start, len } => at(b"override, ", start, len),
@@ -81,18 +80,18 @@ fn written(change: Written, out: &[u8], result: &[u8]) {
     match change {
         Written::Refused(why) => refused(why),
         Written::Bytes(n) => {
-            text::tell(b"bytes ");
+            catalogue_text::tell(b"bytes ");
             io::print_decimal(STDOUT_FILENO, n as u64);
             let mut room = files::room();
             let got = files::read(result, &mut room);
             let k = got.len;
             if same(catalogue_lookup::part(out, 0, n), &room[..k]) {
-                text::tell(b", those of ");
+                catalogue_text::tell(b", those of ");
             } else {
-                text::tell(b", NOT those of ");
+                catalogue_text::tell(b", NOT those of ");
             }
-            text::tell(result);
-            text::tell(b"\n");
+            catalogue_text::tell(result);
+            catalogue_text::tell(b"\n");
         }
     }
 }
@@ -112,7 +111,7 @@ fn drop(a: &[u8], b: &[u8], out: &mut [u8], result: &[u8]) {
     let mut room = files::room();
     let got = files::read(a, &mut room);
     let n = got.len;
-    let who = text::address(b);
+    let who = catalogue_text::address(b);
     let change = catalogue_drop::drop_oldest(&room[..n], who.value, out);
     written(change, out, result);
 }
@@ -144,7 +143,7 @@ fn change(call: &[u8], a: &[u8], b: &[u8], out: &mut [u8], result: &[u8]) {
     } else if same(call, b"export") {
         export(a, out, result);
     } else {
-        text::tell(b"no such call\n");
+        catalogue_text::tell(b"no such call\n");
     }
 }
 
@@ -162,7 +161,7 @@ fn lend_most(call: &[u8], a: &[u8], b: &[u8], result: &[u8]) {
 }
 
 fn run(call: &[u8], a: &[u8], b: &[u8], size: &[u8], result: &[u8]) {
-    let number = text::version(size);
+    let number = catalogue_text::version(size);
     if same(call, b"check") {
         check(a);
         return;
@@ -188,14 +187,14 @@ fn run(call: &[u8], a: &[u8], b: &[u8], size: &[u8], result: &[u8]) {
 
 // What is printed of a call: its words, and its answer.
 fn case(call: &[u8], a: &[u8], b: &[u8], size: &[u8], result: &[u8]) {
-    text::tell(call);
-    text::tell(b" ");
-    text::tell(a);
-    text::tell(b" ");
-    text::tell(b);
-    text::tell(b" ");
-    text::tell(size);
-    text::tell(b": ");
+    catalogue_text::tell(call);
+    catalogue_text::tell(b" ");
+    catalogue_text::tell(a);
+    catalogue_text::tell(b" ");
+    catalogue_text::tell(b);
+    catalogue_text::tell(b" ");
+    catalogue_text::tell(size);
+    catalogue_text::tell(b": ");
     run(call, a, b, size, result);
 }
 

@@ -4,7 +4,6 @@ ghost use Prim.Native.Nat.{_+_, _≤_};
 ghost use lib.ListN.{length};
 ghost use Rattle.io.specs.Counts.{Counts};
 use crate::file_mode;
-use crate::text;
 use libc::STDIN_FILENO;
 
 // The largest file that is read or written. 64 cards with 8 versions each take 70,213 bytes; the rest is for unknown fields.
@@ -53,7 +52,7 @@ fn take_input(room: &mut [u8]) -> Got
 pub fn read_start(path: &[u8], room: &mut [u8]) -> Got
     ensures { λ r. ⌜ Counts (r .len) (now (room .exit)) ⌝ }
 {
-    if text::is_dash(path) {
+    if catalogue_text::is_dash(path) {
         return take_input(room);
     }
     let fd = os::open_read(path);
@@ -79,7 +78,7 @@ pub fn read(path: &[u8], room: &mut [u8]) -> Got
 {
     let got = read_start(path, room);
     if got.more {
-        text::larger(path, room.len());
+        catalogue_text::larger(path, room.len());
         return Got {
             ok: false,
             len: got.len,
@@ -108,9 +107,9 @@ pub fn peek(path: &[u8], room: &mut [u8]) -> Got
 
 // Writes a whole file, - to standard output, and answers whether it was written.
 pub fn put(path: &[u8], bytes: &[u8]) -> bool {
-    if text::is_dash(path) {
-        let whole = text::tell(bytes);
-        text::told(whole);
+    if catalogue_text::is_dash(path) {
+        let whole = catalogue_text::tell(bytes);
+        catalogue_text::told(whole);
         return whole;
     }
     replace(path, bytes)
@@ -135,7 +134,7 @@ pub fn may_be_written(path: &[u8]) -> bool
     requires { ⌜ length (now path) ≤ 4088 ⌝ }
 {
     if is_link(path) {
-        text::link(path);
+        catalogue_text::link(path);
         return false;
     }
     if !may_be_replaced(path) {
@@ -171,7 +170,7 @@ fn may_be_replaced(path: &[u8]) -> bool {
 // a crash leaves the old or the new file whole. Answers whether it was done.
 fn replace(path: &[u8], bytes: &[u8]) -> bool {
     if LONGEST < path.len() {
-        text::too_long(path);
+        catalogue_text::too_long(path);
         return false;
     }
     if !may_be_written(path) {

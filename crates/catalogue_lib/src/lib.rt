@@ -3,9 +3,3 @@
 mod file_mode; // file_mode.rt: the mode of an open file, for a new file that is to have the same
 pub mod files;
 pub mod lock;
-pub mod text;
-
-pub use text::source;
-pub use text::warn;
-pub use text::warn_address;
-pub use text::warn_number;

@@ -1,6 +1,5 @@
 // A lock beside a file that is changed, so that no two programs change it at once.
 use crate::files;
-use crate::text;
 
 // How often a lock that stands is tried again, within a tenth of a second: a change takes some thousandths.
 const TRIES: usize = 50000;
@@ -24,11 +23,11 @@ fn made(name: &[u8]) -> i32 {
 
 // Takes the lock of a path that is to be changed, after a look at whether it may be; - needs none. Says why not.
 pub fn take(path: &[u8]) -> bool {
-    if text::is_dash(path) {
+    if catalogue_text::is_dash(path) {
         return true;
     }
     if files::LONGEST < path.len() {
-        text::too_long(path);
+        catalogue_text::too_long(path);
         return false;
     }
     if !files::may_be_written(path) {
@@ -42,7 +41,7 @@ pub fn take(path: &[u8]) -> bool {
         return true;
     }
     if os::errno() == libc::EEXIST {
-        text::locked(path);
+        catalogue_text::locked(path);
         return false;
     }
     os::fail(path);
@@ -51,7 +50,7 @@ pub fn take(path: &[u8]) -> bool {
 
 // Lets go of a lock that was taken. One that cannot be removed is told.
 pub fn release(path: &[u8]) {
-    if text::is_dash(path) {
+    if catalogue_text::is_dash(path) {
         return;
     }
     if files::LONGEST < path.len() {

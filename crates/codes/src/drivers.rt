@@ -182,7 +182,7 @@ pub fn coded_served(x: Serviced) -> DriverServed
 pub fn coded_part(n: usize, len: usize) -> HandedUp
     ensures { λ r. ⌜ r ≡ codedPart n len ⌝ }
 {
-    if n <= items::sizes::LOOKAHEAD_AREA {
+    if n <= judge::sizes::LOOKAHEAD_AREA {
         return HandedUp { area: 1, n: len };
     }
     HandedUp { area: 2, n: len }

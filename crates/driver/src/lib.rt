@@ -13,16 +13,13 @@ use driver_rules::Sent;
 use driver_rules::Serviced;
 use refusal::Refusal;
 
-mod opening; // opening.rt: opening: the station address, the filter and masks, and both enables
-mod sending; // sending.rt: sending: the refusals in their order, the two preamble words and the data
-
 // The soundness of card and driver together.
 fn is_sound(ram: &[u8], dir: &[u16], c: Card, d: Driver) -> bool
     requires { ⌜ (length (now ram) ≡ 8192) × (length (now dir) ≡ 1110) ⌝ }
     ensures { λ r. ⌜ r ≡ soundState c (now (ram .entry)) (now (dir .entry)) d ⌝ }
 {
     let card = regs::is_sound(ram, dir, c);
-    let driver = items::driver_sound(d);
+    let driver = judge::driver_sound(d);
     card & driver
 }
 
@@ -88,10 +85,10 @@ pub fn service(
     if !d.opened {
         return refused(c, d, Refusal::NeverOpened);
     }
-    if ahead.len() < items::sizes::LOOKAHEAD_AREA {
+    if ahead.len() < judge::sizes::LOOKAHEAD_AREA {
         return refused(c, d, Refusal::AreaShort);
     }
-    if frame.len() < items::sizes::FRAME_AREA {
+    if frame.len() < judge::sizes::FRAME_AREA {
         return refused(c, d, Refusal::AreaShort);
     }
     service::serve(ram, dir, c, d, ahead, frame, budget as usize)
@@ -101,7 +98,7 @@ pub fn service(
 pub fn hand_up<'a>(ahead: &'a [u8], frame: &'a [u8], n: usize) -> &'a [u8]
     ensures { λ r. ⌜ HandsUp (ahead .entry) (frame .entry) n r ⌝ }
 {
-    if n <= items::sizes::LOOKAHEAD_AREA {
+    if n <= judge::sizes::LOOKAHEAD_AREA {
         if n <= ahead.len() {
             return &ahead[..n];
         }

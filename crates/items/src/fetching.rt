@@ -8,12 +8,12 @@ ghost use Rattle.driver_rules.specs.Talk.{run};
 ghost use Rattle.driver_rules.specs.Items.{fetchTalk};
 ghost use Rattle.driver_rules.specs.Meets.{Ready, Ended, Read};
 ghost use Rattle.driver_rules.specs.Serves.{Unmoved};
-use crate::sizes;
 use crate::telling;
 use card_rules::Card;
 use driver_rules::Answer;
 use driver_rules::Driver;
 use driver_rules::Served;
+use judge::sizes;
 
 // The n bytes of the oldest frame, into the front of `area`.
 fn read_frame(ram: &[u8], dir: &[u16], c: Card, area: &mut [u8], n: usize) -> Card

@@ -34,13 +34,13 @@ pub fn look(
     }
     let got = steps::read_word(ram, dir, c, driver_rules::STATUS);
     let status = got.value;
-    if items::is_unfit(status) {
+    if judge::is_unfit(status) {
         return items::ended(c, d, Answer::Refused(Refusal::CardUnfit), left - 1);
     }
-    if items::is_tx_complete(status) {
+    if judge::is_tx_complete(status) {
         return items::report(ram, dir, c, d, left - 1);
     }
-    if items::is_rx_complete(status) {
+    if judge::is_rx_complete(status) {
         return receive(ram, dir, c, d, ahead, frame, left - 1, turns);
     }
     items::idle(ram, dir, c, d, left - 1)
@@ -66,7 +66,7 @@ fn receive(
     }
     let got = steps::read_word(ram, dir, c, driver_rules::RX_STATUS);
     let rx = got.value;
-    if items::is_bad(rx) {
+    if judge::is_bad(rx) {
         if left == 1 {
             return items::short(c, d, 0);
         }
@@ -82,6 +82,6 @@ fn receive(
         }
         return look(ram, dir, dropped, d, ahead, frame, left - 2, turns - 1);
     }
-    let n = (rx % items::sizes::RAW_COUNT) as usize;
+    let n = (rx % judge::sizes::RAW_COUNT) as usize;
     items::fetch(ram, dir, c, d, ahead, frame, left - 1, n)
 }

@@ -40,9 +40,9 @@ pub fn write_word(ram: &mut [u8], dir: &mut [u16], c: Card, o: u16, v: u16) -> C
     ensures { λ r. ⌜ Is r (now (ram .exit)) (now (dir .exit)) (writeWord o v (view c (now (ram .entry)) (now (dir .entry)))) ⌝ }
 {
     if o == 0x0e {
-        return registers::commanded(ram, dir, c, v);
+        return commands::commanded(ram, dir, c, v);
     }
-    registers::write(ram, dir, c, Lanes::Both, o, v)
+    window_write::write(ram, dir, c, Lanes::Both, o, v)
 }
 
 // The low byte of a command is held.
@@ -61,7 +61,7 @@ fn execute(ram: &mut [u8], dir: &mut [u16], c: Card, v: u8) -> Card
 {
     let word = bits::pair(v, c.lines.low);
     let next = hold(c, 0);
-    registers::commanded(ram, dir, next, word)
+    commands::commanded(ram, dir, next, word)
 }
 
 // A byte written.
@@ -77,9 +77,9 @@ pub fn write_byte(ram: &mut [u8], dir: &mut [u16], c: Card, o: u16, v: u8) -> Ca
     }
     let w = bits::wide(v);
     if o % 2 == 0 {
-        return registers::write(ram, dir, c, Lanes::Low, o, w);
+        return window_write::write(ram, dir, c, Lanes::Low, o, w);
     }
-    registers::write(ram, dir, c, Lanes::High, o - 1, w)
+    window_write::write(ram, dir, c, Lanes::High, o - 1, w)
 }
 
 // The card with another receive side.

@@ -38,7 +38,7 @@ pub fn read_word(ram: &[u8], dir: &[u16], c: Card, o: u16) -> Got
             value: word,
         };
     }
-    let value = registers::word_at(ram, dir, c, o);
+    let value = window_read::word_at(ram, dir, c, o);
     Got {
         card: c,
         value: value,
@@ -57,13 +57,13 @@ pub fn read_byte(ram: &[u8], dir: &[u16], c: Card, o: u16) -> Got
         };
     }
     if o % 2 == 0 {
-        let value = registers::word_at(ram, dir, c, o) % 256;
+        let value = window_read::word_at(ram, dir, c, o) % 256;
         return Got {
             card: c,
             value: value,
         };
     }
-    let value = registers::word_at(ram, dir, c, o - 1) / 256;
+    let value = window_read::word_at(ram, dir, c, o - 1) / 256;
     Got {
         card: c,
         value: value,

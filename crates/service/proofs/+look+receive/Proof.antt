@@ -21,11 +21,11 @@ use Rattle.items.proofs.idling.idle.Reads as idle-reads
 use Rattle.items.proofs.fetching.discard.Reads as discard-reads
 use Rattle.items.proofs.fetching.fetch.Reads as fetch-reads
 use Rattle.items.proofs.reporting.report.Reads as report-reads
-use Rattle.items.proofs.tests.is_bad.Reads as is-bad-reads
+use Rattle.judge.proofs.is_bad.Reads as is-bad-reads
 use Rattle.steps.proofs.read_word.Reads as read-word-reads
-use Rattle.items.proofs.tests.is_unfit.Reads as is-unfit-reads
-use Rattle.items.proofs.tests.is_tx_complete.Reads as is-tx-reads
-use Rattle.items.proofs.tests.is_rx_complete.Reads as is-rx-reads
+use Rattle.judge.proofs.is_unfit.Reads as is-unfit-reads
+use Rattle.judge.proofs.is_tx_complete.Reads as is-tx-reads
+use Rattle.judge.proofs.is_rx_complete.Reads as is-rx-reads
 use Rattle.service.proofs.+look+receive.{statement}
 use Rattle.service.proofs.+look+receive.Tie.{close}
 

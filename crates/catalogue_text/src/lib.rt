@@ -1,4 +1,5 @@
-// What the program says, answers on standard output and messages on standard error, and the words that it reads.
+// What the program says, answers on standard output and messages on standard error, and the words that it reads. Proved safe and
+// ending; what is written is tested.
 ghost use Prim.Native.Nat.{_≤_};
 use catalogue_rules::Found;
 use libc::STDERR_FILENO;

@@ -1,4 +1,5 @@
-// What a driver call is made of: the registers and commands it names, the driver's state, and the tests of what is read and sent.
+// What the driver goes by: the tests of its own state, of the words that it reads, and of a packet's length and room; and a packet's
+// bytes and length as they are written.
 ghost use mathlib.Core.Path.{_≡_};
 ghost use Prim.Native.Nat.{_≤_, _<_};
 ghost use lib.ListN.{getD};

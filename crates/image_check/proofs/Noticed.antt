@@ -19,7 +19,7 @@ use Rattle.image_rules.specs.declared.Checked.{Checked}
 use Rattle.image_rules.specs.declared.Checked.the-variants.{Sound}
 use Rattle.image_rules.specs.Image.{placeOf, byteAt, lowAt, highAt, wordAt, from, span, isAmong, except, bothBytes, xorOf, configuration, checksumOf, vital, configurable, secondaryOf, orRefused, checkOf}
 use Rattle.image_check.specs.Noticed.{isSound, Bytes, OneByteNoticed}
-use Rattle.image_rules.proofs.Xor.{xor-assoc}
+use Rattle.image_rules.proofs.Xor.{xor-assoc, xor-across}
 
 -- ---- exclusive-or undone
 
@@ -29,13 +29,6 @@ xor-twice a b = sym (xor-assoc a a b) ∙ ap (λ (x : ℕ). bitXor x b) (xor-sel
 xor-cancel : (a b c : ℕ) → bitXor a (bitXor b c) ≡ a → b ≡ c
 xor-cancel a b c e =
     sym (xor-zero-r b) ∙ ap (bitXor b) (sym (xor-self a) ∙ ap (bitXor a) (sym e) ∙ xor-twice a (bitXor b c)) ∙ xor-twice b c
-
--- a b against c d, as the words come and as the two changes do
-xor-across : (a b c d : ℕ) → bitXor (bitXor a b) (bitXor c d) ≡ bitXor (bitXor a c) (bitXor b d)
-xor-across a b c d =
-    xor-assoc a b (bitXor c d)
-    ∙ ap (bitXor a) (sym (xor-assoc b c d) ∙ ap (λ (x : ℕ). bitXor x d) (xor-comm b c) ∙ xor-assoc c b d)
-    ∙ sym (xor-assoc a c (bitXor b d))
 
 -- ---- an odd number of times
 

@@ -1,15 +1,15 @@
 // An EEPROM image: 128 bytes, 64 words, low byte first; its checksums and its check.
 // No call here asks anything of its caller: past an image's end every byte counts as 0.
 mod one_byte; // one_byte.rt: what the image check is good for: theorems over its definitions
-mod walk;
 mod forms; // forms.rt: the two forms of the line
 pub mod text; // text.rt: the line that is printed
 
 pub use text::judged;
 pub use text::line;
+ghost use mathlib.Core.Path.{_≡_};
+ghost use Prim.Native.Nat.{_/_, _%_};
+ghost use lib.Bits.{bitXor};
 ghost use Rattle.image_rules.specs.Contracts as contract;
-use crate::walk::both_bytes;
-use crate::walk::span_xor;
 use bits::pair;
 use image_rules::BytePlace;
 use image_rules::Checked;
@@ -49,27 +49,48 @@ pub fn word_at(image: &[u8], w: WordOffset) -> u16
     )
 }
 
-// What word 0Fh must be.
+// What word 0Fh must be. Go down the printed listing from word 00h to word 0Eh and take each word once, whole: words 08h,
+// 09h and 0Dh into `low`, all the others into `high`. At the end `high` is folded to the high byte, `low` to the low byte.
 pub fn checksum(image: &[u8]) -> u16
     ensures { λ r. ⌜ contract.checksum (now (image .entry)) r ⌝ }
 {
-    let high = span_xor(image, WordOffset(0x00), WordOffset(0x07))
-        ^ span_xor(image, WordOffset(0x0a), WordOffset(0x0c))
-        ^ both_bytes(image, WordOffset(0x0e));
-    let low = both_bytes(image, WordOffset(0x08))
-        ^ both_bytes(image, WordOffset(0x09))
-        ^ both_bytes(image, WordOffset(0x0d));
-    pair(high, low)
+    let mut high: u16 = 0;
+    let mut low: u16 = 0;
+    for w in 0x00..=0x0e {
+        let word = word_at(image, WordOffset(w));
+        match w {
+            0x08 | 0x09 | 0x0d => low = low ^ word,
+            _ => high = high ^ word,
+        }
+    }
+    pair(folded(high), folded(low))
 }
 
-// What word 17h must be: vital data in the high byte, configurable data in the low one.
+// What word 17h must be, in the same way: vital data makes its high byte, configurable data its low byte. Words 10h to 12h
+// are vital, 13h to 16h configurable; then 17h to 1Fh are passed over, and words 20h to 3Fh are vital again.
 pub fn secondary(image: &[u8]) -> u16
     ensures { λ r. ⌜ contract.secondary (now (image .entry)) r ⌝ }
 {
-    let vital = span_xor(image, WordOffset(0x10), WordOffset(0x12))
-        ^ span_xor(image, WordOffset(0x20), WordOffset(0x3f));
-    let configurable = span_xor(image, WordOffset(0x13), WordOffset(0x16));
-    pair(vital, configurable)
+    let mut vital: u16 = 0;
+    let mut configurable: u16 = 0;
+    for w in 0x10..=0x16 {
+        let word = word_at(image, WordOffset(w));
+        match w {
+            0x10 | 0x11 | 0x12 => vital = vital ^ word,
+            _ => configurable = configurable ^ word,
+        }
+    }
+    for w in 0x20..=0x3f {
+        vital = vital ^ word_at(image, WordOffset(w));
+    }
+    pair(folded(vital), folded(configurable))
+}
+
+// A running word folded to a byte: its high byte and its low byte, exclusive-or'ed. 1234h gives 26h.
+fn folded(word: u16) -> u8
+    ensures { λ r. ⌜ r ≡ bitXor (word / 256) (word % 256) ⌝ }
+{
+    (word / 256) as u8 ^ (word % 256) as u8
 }
 
 // Checks an image of any length. The first of 2, 8, 9 and 10 that is due is the answer.

@@ -1,10 +1,10 @@
--- Exclusive-or is associative: digit by digit, from the lowest on.
+-- Exclusive-or is associative: digit by digit, from the lowest on. So four may be paired in another way.
 -- Assumes nothing.
 use mathlib.Core.Path.{_≡_, refl, sym, ap, ap₂, _∙_}
 use Prim.Native.Nat.{ℕ, zero, suc, _+_, _*_, _/_, _%_, _<_}
 use native.Mathlib.Omega.{arith}
 use lib.Arith.{bin-ind, digits-div, digits-mod}
-use lib.Bits.{bitXor, differ, xor-step}
+use lib.Bits.{bitXor, differ, xor-step, xor-comm}
 
 differ-bit : (x y : ℕ) → x < 2 → y < 2 → differ x y < 2
 differ-bit zero y hx hy = hy
@@ -40,3 +40,10 @@ xor-assoc a =
     ∙ ap₂ (λ (x y : ℕ). x * 2 + y) (ih (b / 2) (c / 2)) (differ-assoc (n % 2) (b % 2) (c % 2) (omega arith) (omega arith) (omega arith))
     ∙ sym (ap₂ (λ (x y : ℕ). bitXor (n / 2) x * 2 + differ (n % 2) y) (half b c) (odd b c))
     ∙ sym (xor-step n (bitXor b c))) a
+
+-- a with b and c with d, or a with c and b with d.
+pub xor-across : (a b c d : ℕ) → bitXor (bitXor a b) (bitXor c d) ≡ bitXor (bitXor a c) (bitXor b d)
+xor-across a b c d =
+    xor-assoc a b (bitXor c d)
+    ∙ ap (bitXor a) (sym (xor-assoc b c d) ∙ ap (λ (x : ℕ). bitXor x d) (xor-comm b c) ∙ xor-assoc c b d)
+    ∙ sym (xor-assoc a c (bitXor b d))

@@ -354,6 +354,48 @@ def early():
     s.do('rw E', '= 2010')
 
 
+def threshold():
+    s = Script('threshold', 'The threshold of RX Early is at least 8, with which a frame starts: what is stored reads back in window 5.')
+    s.awake()
+    s.say('At power-on it is 2,044.')
+    s.ok('ww E 0805')
+    s.do('rw 6', '= 07FC')
+    s.ok('open 0020 AFC4 12E5')
+    f = frame(60)
+    for argument in (4, 0, 7, 8, 9, 10, 2047):
+        stored = max(8, argument)
+        s.say('Command 17 with {:,}: {:,} is stored.'.format(argument, stored))
+        s.ok('ww E %04X' % (17 << 11 | argument), 'ww E 0805')
+        s.do('rw 6', '= %04X' % stored)
+        s.do('rb 6', '= %02X' % (stored & 0xFF))
+        s.ok('ww E 0801')
+        s.do('rw E', '= 2000')
+        s.say('RX Early, bit 5, comes with %s.' % ('the start' if stored == 8 else 'byte %d' % stored if stored < 60 else 'no byte of 60'))
+        s.ok('start ' + hexed(f[:8]))
+        s.do('rw E', '= %04X' % (0x2020 if stored <= 8 else 0x2000))
+        s.ok('bytes ' + hexed(f[8:9]))
+        s.do('rw E', '= %04X' % (0x2020 if stored <= 9 else 0x2000))
+        s.ok('bytes ' + hexed(f[9:]))
+        s.do('rw E', '= %04X' % (0x2020 if stored <= 60 else 0x2000))
+        s.ok('end 11')
+        s.do('rw E', '= 2010')
+        s.ok('ww E 4000')
+    s.say('By bytes: the low byte of the command is held, and its high byte executes it.')
+    s.ok('wb E 03', 'wb F 88', 'ww E 0805')
+    s.do('rw 6', '= 0008')
+    s.say('In window 0 the command does nothing.')
+    s.ok('ww E 8C00', 'ww E 0800', 'ww E 8801', 'ww E 0805')
+    s.do('rw 6', '= 0400')
+    s.say('A frame that has its 8 bytes when the command comes: the bit is set at once.')
+    s.ok('ww E 0801', 'start ' + hexed(f[:8]))
+    s.do('rw E', '= 2000')
+    s.ok('ww E 8801')
+    s.do('rw E', '= 2020')
+    s.say('RX Reset restores 2,044.')
+    s.ok('ww E 2800', 'ww E 0805')
+    s.do('rw 6', '= 07FC')
+
+
 def statuses():
     s = Script('statuses', 'The status stack is 31 deep.')
     s.opened()
@@ -561,7 +603,7 @@ EXAMPLES = ('first-session', 'three-cards', 'cut-image')
 
 
 def main():
-    for make in (first_session, bench_table, id_sequence, refusals, three_cards, damaged, overrun, early, statuses, collisions, eeprom, hostile, cut_image, registers):
+    for make in (first_session, bench_table, id_sequence, refusals, three_cards, damaged, overrun, early, threshold, statuses, collisions, eeprom, hostile, cut_image, registers):
         make()
     os.makedirs(os.path.join(OUT, 'data'), exist_ok=True)
     out = []

@@ -206,7 +206,7 @@ class Script:
         elif number == 16:
             argument = r.choice([5, 5, 8, 2, argument])
         elif number == 17:
-            argument = r.choice([0, 8, 9, 10, 60, 61, 64, r.randrange(100), r.randrange(1800), 1792, 2044, argument])
+            argument = r.choice([0, 4, 7, 8, 9, 10, 60, 61, 64, r.randrange(100), r.randrange(1800), 1792, 2044, argument])
         elif number == 18:
             argument = r.choice([0, 4, 1000, 1792, 1795, 1796, argument])
         elif number == 13:
@@ -264,6 +264,20 @@ class Script:
             good = r.random() < 0.7
         if r.random() < 0.98:
             self.say('end', '11' if good else r.choice(['00', '01', '10', '11']))
+
+    def early(self):
+        """A small threshold of RX Early, read back, and the first bytes of a frame."""
+        r = self.r
+        self.command(17, r.randrange(13))
+        self.window(5)
+        r.choice([lambda: self.rw(6), lambda: self.rb(6), lambda: self.rb(7)])()
+        self.window(1)
+        self.say('start', self.data((self.destination() + [0, 0])[:8]))
+        for _ in range(r.randrange(6)):
+            self.rw(0x0E)
+            self.say('bytes', self.data([r.randrange(256)]))
+        self.rw(0x0E)
+        self.say('end', '11')
 
     def read_data(self):
         for _ in range(self.r.choice([1, 1, 2, 3, 4, 5, 30, 31, 32])):
@@ -517,7 +531,7 @@ class Script:
         scenes = [(self.frames_and_service, 14), (self.sends, 12), (self.flood, 2), (self.fill_tx, 3), (self.packets, 6),
                   (self.fill_stack, 2), (self.pokes, 8), (self.eeprom, 4), (self.split, 3), (self.id_play, 3),
                   (self.bus, 1), (self.strays, 6), (self.hostile, 8), (self.mend, 8), (self.service, 6),
-                  (self.read_data, 3), (self.all_windows, 1), (self.life, 2)]
+                  (self.read_data, 3), (self.all_windows, 1), (self.life, 2), (self.early, 2)]
         working = [self.frames_and_service, self.sends, self.flood, self.fill_tx, self.fill_stack, self.service]
         kinds, weights = zip(*scenes)
         if self.r.random() < 0.9:

@@ -198,7 +198,7 @@ def results(r):
     for number, argument, place, why in (
             (19, 0x2B7, 0, 'TX Start 2B7h; the low two bits are dropped'),
             (18, 0x7A6, 1, 'TX Available 7A6h, above 1,792; the low two bits are dropped'),
-            (17, 0x3D1, 3, 'RX Early 3D1h; as given'),
+            (17, 0x3D1, 3, 'RX Early 3D1h; as given, being 8 or more'),
             (16, 0x7F6, 4, 'RX filter; modulo 16'),
             (14, 0x7C5, 5, 'interrupt mask; modulo 256, bit 0 is dropped'),
             (15, 0x35B, 6, 'Read Zero mask; modulo 256, bit 0 is dropped')):

@@ -77,6 +77,8 @@ static void layout(void)
     s.card.transmit.outcomes.sender.level = 0x234;
     s.card.transmit.outcomes.sender.available = true;
     EXPECT(word_at(&s, 0x02) == 0x234);
+    s.card.receive.receiver.threshold = 7; /* never stored: the state is unsound */
+    EXPECT(seamtrout_read_word(&s, 0x06, &words[0]) == 1);
     s.card.receive.receiver.threshold = 0x345;
     EXPECT(word_at(&s, 0x06) == 0x345);
     s.card.select.filter = 9;

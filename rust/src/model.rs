@@ -80,6 +80,7 @@ const CHECK_INCLUDED: u16 = 0x2000;
 const MANUFACTURER: u16 = 0x6D50;
 const RAM: u16 = 8192;
 const THRESHOLD_OFF: u16 = 2044;
+const EARLY_LEAST: u16 = 8;
 const LONGEST_STORED: u16 = 1792;
 const LONGEST: u16 = 1514;
 const SHORTEST: u16 = 60;
@@ -722,7 +723,7 @@ impl Card {
             SET_INTERRUPT_MASK => self.interrupt_mask = argument as u8 & 0xFE,
             SET_READ_ZERO => self.read_zero = argument as u8 & 0xFE,
             SET_RX_FILTER => self.rx.filter = argument as u8 & 0x0F,
-            SET_RX_EARLY => self.rx.early_threshold = argument,
+            SET_RX_EARLY => self.rx.early_threshold = argument.max(EARLY_LEAST),
             SET_TX_AVAILABLE => self.tx.available_threshold = argument & !3,
             SET_TX_START => self.tx.start_threshold = argument & !3,
             _ => {}

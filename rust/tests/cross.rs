@@ -332,9 +332,15 @@ impl Pair {
             4 => done(both!(self, write_byte(0x0B, 0))),
             5 => done(both!(self, write_word(0x0E, 8 << 11))),
             6 => {
-                let n = r.below(2048) as u16;
+                let n = if r.one_in(2) { r.below(16) } else { r.below(2048) } as u16;
                 let threshold = (17 + r.below(3) as u16) << 11;
-                both!(self, write_word(0x0E, threshold | n)).unwrap()
+                both!(self, write_word(0x0E, threshold | n)).unwrap();
+                self.glance();
+                both!(self, write_word(0x0E, 1 << 11 | 5)).unwrap();
+                for o in [0x00, 0x02, 0x06] {
+                    both!(self, read_word(o)).unwrap();
+                }
+                both!(self, write_word(0x0E, 1 << 11 | 1)).unwrap()
             }
             7 => {
                 let bits = r.below(256) as u16;

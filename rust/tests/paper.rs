@@ -548,6 +548,21 @@ fn rx_early_once_per_frame() {
     assert_eq!(status(&mut card), 0x2000);
 }
 
+/// The threshold is at least 8 (request 2): it reads back so, and RX Early comes with the start.
+#[test]
+fn rx_early_at_least_8() {
+    for (argument, stored, at_the_start) in [(0, 8, true), (4, 8, true), (7, 8, true), (8, 8, true), (9, 9, false), (2047, 2047, false)] {
+        let mut card = opened();
+        command(&mut card, 17, argument);
+        assert_eq!(in_window(&mut card, 5, |card| card.read_word(6)), Ok(stored));
+        assert_eq!(status(&mut card), 0x2000);
+        begin(&mut card, &frame(8));
+        assert_eq!(status(&mut card), if at_the_start { 0x2020 } else { 0x2000 });
+        card.wire_byte(0).unwrap();
+        assert_eq!(status(&mut card), if argument <= 9 { 0x2020 } else { 0x2000 });
+    }
+}
+
 #[test]
 fn filter_bits() {
     let own = OWN;

@@ -4,16 +4,16 @@ use mathlib.Core.Bool.{Bool, true, false, not, _&&_}
 use mathlib.Core.List.{List}
 use Prim.Native.Nat.{ℕ, zero, _/_, _%_, _≤_, _<_}
 use native.Mathlib.Omega.{arith}
-use borrow.Author.Tests.{le-leb, eq-eqb}
-use lib.Dec.{leb, eqb}
+use borrow.Author.Tests.{le-leb, eq-eqb, ltb-false}
+use lib.Dec.{ltb, leb, eqb, lit≤}
 use Rattle.bits.specs.Bits.{has}
-use Rattle.bits.proofs.Tests.{both, join, of-cond}
+use Rattle.bits.proofs.Tests.{both, join, of-cond, of-test}
 use Rattle.port_rules.specs.declared.IdState.{IdState}
 use Rattle.port_rules.specs.Sound.{idSound}
 use Rattle.receive_rules.specs.Frame.{Rx}
 use Rattle.receive_rules.specs.Sound as rxs
 use Rattle.receive_rules.specs.Reading as reading
-use Rattle.receive_rules.specs.Reading.{rxEmpty, deafened}
+use Rattle.receive_rules.specs.Reading.{rxEmpty, deafened, earlyLeast}
 use Rattle.receive_rules.specs.Update.{withOn, withThreshold, withReceiver}
 use Rattle.receive_rules.proofs.Facts.{sound-told, kept-shown}
 use Rattle.receive_rules.proofs.Keeps as rxk
@@ -30,7 +30,7 @@ use Rattle.card_rules.specs.Room.{rxRoom, txRoom}
 use Rattle.card_rules.specs.Power.{powerOn, reset}
 use Rattle.card_rules.specs.Sound.{isMask, selectSound, kept, sound}
 use Rattle.card_rules.proofs.Sides.{rx-of, tx-of, registers-of, kept-by, kept-of, rx-kept, tx-kept, registers-kept, identified, idle, selected}
-use Rattle.card_rules.specs.Command.{reported, receiving, rxReset, acknowledge, mask, act, command, commanded}
+use Rattle.card_rules.specs.Command.{reported, receiving, rxReset, acknowledge, mask, earlyThreshold, act, command, commanded}
 
 -- what is kept, as a fact that a chain of tests passes on
 pub record Keeping (b : Adapter) : Type 0 where
@@ -65,6 +65,9 @@ select-by s w m z f = rw (w, f) (join (isMask (s .mask)) (isMask (s .zero) && tr
 is-mask : (x : ℕ) → isMask (mask x) ≡ true
 is-mask x = join (leb (mask x) 254) (eqb (mask x % 2) 0) (le-leb (mask x) 254 (omega arith)) (eq-eqb (mask x % 2) 0 (omega arith))
 
+early-between : (x : ℕ) → x ≤ 2047 → (earlyLeast ≤ earlyThreshold x) × (earlyThreshold x ≤ 2047)
+early-between x h = of-test (λ (n : ℕ). (earlyLeast ≤ n) × (n ≤ 2047)) (ltb x earlyLeast) (λ _. (lit≤ tt, lit≤ tt)) (λ e. (ltb-false x earlyLeast e, h))
+
 module _ (a : Adapter) (s : sound a ≡ true) where
   -- ---- one group changed
 
@@ -92,7 +95,7 @@ pub power-on-kept : (words : List ℕ) (wire : ℕ) → wire < 2 → kept (power
 unfolding powerOn selectSound idSound
 power-on-kept words wire w =
     let a = powerOn words wire in
-    kept-by a (kept-shown (rxRoom a) (rxEmpty wire) (sound-told (rxRoom a) (rxEmpty wire) (rxk.empty-sound (rxRoom a) wire 2044 false false w (omega arith)) .0))
+    kept-by a (kept-shown (rxRoom a) (rxEmpty wire) (sound-told (rxRoom a) (rxEmpty wire) (rxk.empty-sound (rxRoom a) wire 2044 false false w (lit≤ tt, lit≤ tt)) .0))
     (txk.sound-kept (txRoom a) txEmpty (txk.power-on-sound (txRoom a))) refl
 
 module _ (a : Adapter) (s : sound a ≡ true) where
@@ -133,6 +136,10 @@ module _ (a : Adapter) (s : sound a ≡ true) where
   filter-kept : (x : ℕ) → kept (withSelect (selectFilter (x % 16) (a .select)) a) ≡ true
   filter-kept x = select-kept a s (selectFilter (x % 16) (a .select)) (select-by (selectFilter (x % 16) (a .select)) (window-ok (a .select) (selected a s)) (mask-ok (a .select) (selected a s)) (zero-ok (a .select) (selected a s)) (le-leb (x % 16) 15 (omega arith)))
 
+  early-kept : (x : ℕ) → x ≤ 2047 → kept (withRx (withReceiver (withThreshold (earlyThreshold x) (a .rx .receiver)) (a .rx)) a) ≡ true
+  early-kept x h =
+      rx-changed a s (withReceiver (withThreshold (earlyThreshold x) (a .rx .receiver)) (a .rx)) (rxk.threshold-kept (rxRoom a) (a .rx) (rx-of a s) (earlyThreshold x) (early-between x h))
+
   act-keeps : (n x : ℕ) → x ≤ 2047 → Keeping (act n x a)
   unfolding act
   act-keeps n x h =
@@ -149,7 +156,7 @@ module _ (a : Adapter) (s : sound a ≡ true) where
       (of-cond Keeping (eqb n 14) (record { is = mask-kept x })
       (of-cond Keeping (eqb n 15) (record { is = zero-kept x })
       (of-cond Keeping (eqb n 16) (record { is = filter-kept x })
-      (of-cond Keeping (eqb n 17) (record { is = rx-changed a s (withReceiver (withThreshold x (a .rx .receiver)) (a .rx)) (rxk.threshold-kept (rxRoom a) (a .rx) (rx-of a s) x h) })
+      (of-cond Keeping (eqb n 17) (record { is = early-kept x h })
       (of-cond Keeping (eqb n 18) (record { is = reported-keeps (outcome.setLevel x) (λ r. set-level-keeps x r h) })
       (of-cond Keeping (eqb n 19) (record { is = reported-keeps (outcome.setStart x) (λ r. set-start-keeps x r h) })
       (record { is = k a s }))))))))))))))))

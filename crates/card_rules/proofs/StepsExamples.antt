@@ -103,3 +103,15 @@ past-1 = refl
 past-3 : reads 8 (reading31 32 (frame 53 true true)) ≡ 0x07FD
 unfolding on after reads order ready bytes frame reading31 access effect commanded command act settle powerOn writeWord write interrupting earlyFlag toldFlag due enable queue.free queue.room txSize rxSize some complete wordAt statusOf window1 wireStart wireByte wireEnd wire.wireStart wire.wireByte wire.wireEnd begins passes marked ending isComing overran room atNewest rxStatus marks afterWord afterRead readable oldest dataWord
 past-3 = refl
+
+-- RX Early: n single bytes have come after the eight of the start; with 0, 4 and 8 the bit comes with the start, with 9 a byte later
+early : ℕ → ℕ → ℕ
+early argument n = reads 14 (bytes n (wireStart (replicate 8 0) (after (order 17 argument ∷ []) ready)))
+
+early-with-the-start : (early 0 0 ≡ 0x2020) × ((early 4 0 ≡ 0x2020) × (early 8 0 ≡ 0x2020))
+unfolding early on after reads order ready bytes access effect commanded command act settle powerOn writeWord write interrupting earlyFlag toldFlag due enable queue.free queue.room txSize rxSize some complete wordAt statusOf wireStart wire.wireStart begins passes isComing overran room
+early-with-the-start = (refl, (refl, refl))
+
+early-a-byte-later : (early 9 0 ≡ 0x2000) × (early 9 1 ≡ 0x2020)
+unfolding early on after reads order ready bytes access effect commanded command act settle powerOn writeWord write interrupting earlyFlag toldFlag due enable queue.free queue.room txSize rxSize some complete wordAt statusOf wireStart wireByte wire.wireStart wire.wireByte begins passes marked isComing overran room atNewest
+early-a-byte-later = (refl, refl)

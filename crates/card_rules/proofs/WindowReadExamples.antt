@@ -2,7 +2,7 @@
 use mathlib.Core.Path.{_≡_, refl}
 use mathlib.Core.Bool.{false}
 use mathlib.Core.List.{[]}
-use Prim.Native.Nat.{ℕ}
+use Prim.Native.Nat.{ℕ, _+_}
 use Rattle.transmit_rules.specs.Queue.{free, room}
 use Rattle.transmit_rules.specs.Outcome.{setLevel, setStart}
 use Rattle.card_rules.specs.Adapter.{Adapter}
@@ -60,6 +60,14 @@ mask-A6 = (refl, (refl, refl))
 zero-5A : (reads 5 0x0C (after 0x795B) ≡ 0x5A) × ((reads 5 0x08 (after 0x795B) ≡ 0) × (reads 5 0x0A (after 0x795B) ≡ 0))
 unfolding reads after wordAt window5 commanded command act powerOn
 zero-5A = (refl, (refl, refl))
+
+-- the threshold of RX Early is at least 8
+early : ℕ → ℕ
+early argument = reads 5 0x06 (after (0x8800 + argument))
+
+early-least : (early 0 ≡ 8) × ((early 4 ≡ 8) × ((early 7 ≡ 8) × ((early 8 ≡ 8) × ((early 9 ≡ 9) × (early 2047 ≡ 2047)))))
+unfolding early reads after wordAt window5 commanded command act powerOn
+early-least = (refl, (refl, (refl, (refl, (refl, refl)))))
 
 -- after one preamble word TX Free is 3,070 of 3,072; window 1 shows it cut to a multiple of 4, window 3 the exact one
 preamble : Adapter

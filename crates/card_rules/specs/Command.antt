@@ -1,9 +1,10 @@
 -- The commands, in document 01's order. Assumes nothing.
 use mathlib.Core.Bool.{Bool, true, false, cond, not, _&&_}
 use Prim.Native.Nat.{ℕ, _*_, _/_, _%_}
-use lib.Dec.{eqb}
+use lib.Dec.{ltb, eqb}
 use Rattle.bits.specs.Bits.{has}
 use Rattle.receive_rules.specs.Reading as reading
+use Rattle.receive_rules.specs.Reading.{earlyLeast}
 use Rattle.receive_rules.specs.Update.{withOn, withEarly, withThreshold, withReceiver}
 use Rattle.transmit_rules.specs.Reports.{Reports}
 use Rattle.transmit_rules.specs.Outcome as outcome
@@ -38,9 +39,9 @@ acknowledge x a =
 abbrev pub mask : ℕ → ℕ
 mask x = x % 256 / 2 * 2
 
--- The threshold of RX Early is the argument as given.
+-- The threshold of RX Early is the larger of 8 and the argument.
 abbrev pub earlyThreshold : ℕ → ℕ
-earlyThreshold x = x
+earlyThreshold x = cond (ltb x earlyLeast) earlyLeast x
 
 -- ---- by number; numbers that are not here do nothing
 

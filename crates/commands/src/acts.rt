@@ -134,11 +134,15 @@ pub fn set_filter(c: Card, x: u16) -> Card
     next
 }
 
-// RX Early.
+// RX Early: an argument below the least is stored as the least.
 pub fn set_early(c: Card, x: u16) -> Card
     ensures { λ r. ⌜ r ≡ cardReceiver (withThreshold (earlyThreshold x) (c .receive .receiver)) c ⌝ }
 {
     let mut next = c;
+    if x < receive::EARLY_LEAST {
+        next.receive.receiver.threshold = receive::EARLY_LEAST;
+        return next;
+    }
     next.receive.receiver.threshold = x;
     next
 }

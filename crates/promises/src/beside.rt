@@ -1,5 +1,6 @@
 // What stands beside the promises: theorems that say more, and worked examples, computed.
 ghost use Rattle.found.specs.Theorems.{The-search-ends, The-search-costs, Fresh-cards-are-found, Activation-activates-the-tagged-card, A-found-card-is-activated-alone, One-zero-misses-a-card, Every-access-keeps-soundness};
+ghost use Rattle.runs.specs.Early.{RX-Early-comes-as-before};
 ghost use Rattle.no_trace.specs.Examples.{Two-stretches, A-budget-of-4-leaves-a-trace, Not-at-rest-leaves-a-trace};
 ghost use Rattle.no_trace.specs.Wrong.{Wrong-services-hand-up-damage};
 ghost use Rattle.sends_carried.specs.Carried.{A-send-answers-by-the-table, A-packet-is-stored-whole, A-success-tells-the-bytes, Clear-states};
@@ -40,6 +41,11 @@ pub fn one_zero_misses_a_card()
 
 pub fn every_access_keeps_soundness()
     ensures { λ r. ⌜ Every-access-keeps-soundness ⌝ }
+{}
+
+// The least threshold moves no RX Early: at every moment of every run Status and all that is answered next are those of the rule before it, but for window 5's read-back.
+pub fn rx_early_comes_as_before()
+    ensures { λ _. ⌜ RX-Early-comes-as-before ⌝ }
 {}
 
 // A worked example: two damaged frames, one with service calls among its bytes.

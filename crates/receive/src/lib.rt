@@ -32,3 +32,6 @@ const LONGEST: u16 = 1792;
 
 // RX Early's threshold at reset.
 pub const EARLY_DEFAULT: u16 = 2044;
+
+// The least that is stored of it: a start brings as many bytes.
+pub const EARLY_LEAST: u16 = 8;

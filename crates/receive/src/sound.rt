@@ -8,6 +8,7 @@ ghost use Rattle.receive_rules.specs.Early.{settleEarly};
 ghost use Rattle.receive_rules.specs.Sound.{inOrder, earlySettled};
 ghost use Rattle.receive_rules.specs.View.{rxArea, framesOf, rxOf, Packed, Step, soundSide, allEnded};
 use crate::COMING;
+use crate::EARLY_LEAST;
 use crate::LONGEST;
 use crate::SLOTS;
 use receive_rules::Receive;
@@ -115,5 +116,10 @@ pub fn rx_sound(ram: &[u8], dir: &[u16], size: usize, r: Receive) -> bool
     let ordered = in_order(ram, dir, size, count, wire == 2);
     let have = readable_bytes(ram, dir, size, count);
     let settled = early_settled(ram, dir, size, count, a);
-    (wire <= 2) & ordered & (a.read <= have) & (a.threshold <= 2047) & (a.told | !a.early) & settled
+    (wire <= 2)
+        & ordered
+        & (a.read <= have)
+        & ((EARLY_LEAST <= a.threshold) & (a.threshold <= 2047))
+        & (a.told | !a.early)
+        & settled
 }

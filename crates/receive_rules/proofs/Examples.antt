@@ -219,3 +219,15 @@ sum-fits = refl
 sum-over : handed 2 ≡ false
 unfolding handed side soundSide frames roomOf room isComing stateOf inOrder readable earlySettled
 sum-over = refl
+
+-- an empty store with this threshold: 8 to 2,047
+with-threshold : ℕ → Bool
+with-threshold n = soundSide 64 (record { receiver = withThreshold n (side 0 [] .receiver); frames = 0 }) (replicate 64 7) []
+
+threshold-sound : (with-threshold 8 ≡ true) × (with-threshold 2047 ≡ true)
+unfolding with-threshold side soundSide frames roomOf room inOrder readable earlySettled
+threshold-sound = (refl, refl)
+
+threshold-unsound : (with-threshold 7 ≡ false) × (with-threshold 2048 ≡ false)
+unfolding with-threshold side soundSide frames roomOf room inOrder readable earlySettled
+threshold-unsound = (refl, refl)

@@ -10,7 +10,7 @@ use lib.ListN.{length}
 use Rattle.store.specs.Store as store
 use Rattle.receive_rules.specs.declared.Receive.{Receive}
 use Rattle.receive_rules.specs.Frame.{Rx, room}
-use Rattle.receive_rules.specs.Reading.{readable}
+use Rattle.receive_rules.specs.Reading.{readable, earlyLeast}
 use Rattle.receive_rules.specs.Sound.{inOrder, earlySettled, kept, sound}
 use Rattle.receive_rules.specs.View.{framesOf, rxArea, rxOf, Sound, soundSide}
 use Rattle.bits.proofs.Tests.{both, never}
@@ -20,7 +20,7 @@ pub record Kept (size : ℕ) (x : Rx) : Type 0 where
   pub wire : x .receiver .wire ≤ 2
   pub order : inOrder (eqb (x .receiver .wire) 2) (x .frames) ≡ true
   pub read : x .receiver .read ≤ readable (x .frames)
-  pub threshold : x .receiver .threshold ≤ 2047
+  pub threshold : (earlyLeast ≤ x .receiver .threshold) × (x .receiver .threshold ≤ 2047)
   pub early : (x .receiver .told || not (x .receiver .early)) ≡ true
 
 pub kept-told : (size : ℕ) (x : Rx) → kept size x ≡ true → Kept size x
@@ -29,9 +29,10 @@ kept-told size x h =
     let b : Bool = leb (x .receiver .wire) 2 in
     let d : Bool = inOrder (eqb (x .receiver .wire) 2) (x .frames) in
     let e : Bool = leb (x .receiver .read) (readable (x .frames)) in
-    let g : Bool = leb (x .receiver .threshold) 2047 in
-    let t = both (a && b && d && e && g) (x .receiver .told || not (x .receiver .early)) h in
-    let s = both (a && b && d && e) g (t .0) in
+    let g : Bool = leb earlyLeast (x .receiver .threshold) in
+    let m : Bool = leb (x .receiver .threshold) 2047 in
+    let t = both (a && b && d && e && (g && m)) (x .receiver .told || not (x .receiver .early)) h in
+    let s = both (a && b && d && e) (g && m) (t .0) in
     let r = both (a && b && d) e (s .0) in
     let q = both (a && b) d (r .0) in
     let p = both a b (q .0) in
@@ -40,12 +41,12 @@ kept-told size x h =
       wire = leb-true _ _ (p .1);
       order = q .1;
       read = leb-true _ _ (r .1);
-      threshold = leb-true _ _ (s .1);
+      threshold = let l = both g m (s .1) in (leb-true _ _ (l .0), leb-true _ _ (l .1));
       early = t .1;
     }
 
 pub kept-shown : (size : ℕ) (x : Rx) → Kept size x → kept size x ≡ true
-kept-shown size x k = rw (le-leb _ _ (k .space), le-leb _ _ (k .wire), k .order, le-leb _ _ (k .read), le-leb _ _ (k .threshold), k .early)
+kept-shown size x k = rw (le-leb _ _ (k .space), le-leb _ _ (k .wire), k .order, le-leb _ _ (k .read), le-leb _ _ (k .threshold .0), le-leb _ _ (k .threshold .1), k .early)
 
 pub sound-told : (size : ℕ) (x : Rx) → sound size x ≡ true → Kept size x × (earlySettled (x .receiver) (x .frames) ≡ true)
 sound-told size x h = let p = both (kept size x) _ h in (kept-told size x (p .0), p .1)

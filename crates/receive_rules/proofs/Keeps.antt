@@ -12,7 +12,7 @@ use Rattle.receive_rules.specs.declared.Receiver.{Receiver}
 use Rattle.receive_rules.specs.Frame.{State, coming, whole, damaged, Frame, Rx, isComing, overran, room}
 use Rattle.receive_rules.specs.Update.{withOn, withEarly, withThreshold, withReceiver, withFrames}
 use Rattle.receive_rules.specs.Wire.{fresh, begins, fits8, wireStart, longer, fits, full, marked, takes, wireByte, ending, ends, wireEnd}
-use Rattle.receive_rules.specs.Reading.{readable, beyond, afterRead, withoutOldest, discard, deafened, earlyDefault, rxReset}
+use Rattle.receive_rules.specs.Reading.{readable, beyond, afterRead, withoutOldest, discard, deafened, earlyDefault, earlyLeast, rxReset}
 use Rattle.receive_rules.specs.Sound.{sized, ended, started, inOrder, earlySettled, kept, sound}
 use Rattle.bits.proofs.Tests.{by-test, both, join, never, of-test}
 use Rattle.receive_rules.proofs.Laws.{room-snoc}
@@ -265,11 +265,11 @@ module _ (size : ℕ) (x : Rx) (h : sound size x ≡ true) where
   pub on-kept : (v : Bool) → kept size (withReceiver (withOn v (x .receiver)) x) ≡ true
   on-kept v = sound-kept size x h
 
-  pub threshold-kept : (v : ℕ) → v ≤ 2047 → kept size (withReceiver (withThreshold v (x .receiver)) x) ≡ true
-  threshold-kept v small =
+  pub threshold-kept : (v : ℕ) → (earlyLeast ≤ v) × (v ≤ 2047) → kept size (withReceiver (withThreshold v (x .receiver)) x) ≡ true
+  threshold-kept v between =
       let k = facts in
       kept-shown size (withReceiver (withThreshold v (x .receiver)) x)
-      (record { space = k .space; wire = k .wire; order = k .order; read = k .read; threshold = small; early = k .early })
+      (record { space = k .space; wire = k .wire; order = k .order; read = k .read; threshold = between; early = k .early })
 
   -- RX Early is acknowledged, or stays as it was
   pub early-kept : (b : Bool) → kept size (withReceiver (withEarly (b && x .receiver .early) (x .receiver .told) (x .receiver)) x) ≡ true
@@ -296,11 +296,11 @@ unfolding room
 empty-resized size other x e h = sound-resized size other x (rw e (omega arith)) h
 
 -- nothing stored, nothing read, and the wire idle or ignored: power-on, and RX Reset
-pub empty-sound : (size wire threshold : ℕ) (on failed : Bool) → wire < 2 → threshold ≤ 2047
+pub empty-sound : (size wire threshold : ℕ) (on failed : Bool) → wire < 2 → (earlyLeast ≤ threshold) × (threshold ≤ 2047)
     → sound size (record { receiver = record { on = on; failed = failed; early = false; told = false; threshold = threshold; read = 0; wire = wire }; frames = [] }) ≡ true
 unfolding room readable inOrder earlySettled
 empty-sound size wire threshold on failed w t =
-    rw (le-leb 0 size (omega arith), le-leb wire 2 (omega arith), ne-eqb wire 2 (λ e. omega arith), le-leb 0 0 (omega arith), le-leb threshold 2047 t)
+    rw (le-leb 0 size (omega arith), le-leb wire 2 (omega arith), ne-eqb wire 2 (λ e. omega arith), le-leb 0 0 (omega arith), le-leb earlyLeast threshold (t .0), le-leb threshold 2047 (t .1))
 
 -- a frame on the wire is ignored to its end
 pub deafened-quiet : (wire : ℕ) → wire ≤ 2 → deafened wire < 2
@@ -308,7 +308,7 @@ deafened-quiet wire h = of-test (λ (n : ℕ). n < 2) (eqb wire 2) (λ e. lit< t
 
 pub reset-sound : (size : ℕ) (x : Rx) → x .receiver .wire ≤ 2 → sound size (rxReset x) ≡ true
 unfolding rxReset
-reset-sound size x h = empty-sound size (deafened (x .receiver .wire)) earlyDefault false false (deafened-quiet (x .receiver .wire) h) (lit≤ tt)
+reset-sound size x h = empty-sound size (deafened (x .receiver .wire)) earlyDefault false false (deafened-quiet (x .receiver .wire) h) (lit≤ tt, lit≤ tt)
 
 pub reset-kept : (size : ℕ) (x : Rx) → x .receiver .wire ≤ 2 → kept size (rxReset x) ≡ true
 reset-kept size x h = sound-kept size (rxReset x) (reset-sound size x h)

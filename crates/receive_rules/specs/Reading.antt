@@ -94,6 +94,10 @@ deafened wire = cond (eqb wire 2) 1 wire
 abbrev pub earlyDefault : ℕ
 earlyDefault = 2044
 
+-- .. and the least that is stored: a start brings as many bytes
+abbrev pub earlyLeast : ℕ
+earlyLeast = 8
+
 -- The empty receive side: the receiver is off, and nothing is stored. `wire` is what the wire is doing.
 abbrev pub rxEmpty : ℕ → Rx
 rxEmpty wire =

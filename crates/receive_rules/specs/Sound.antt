@@ -6,7 +6,7 @@ use lib.ListN.{length}
 use lib.Dec.{ltb, leb, eqb}
 use Rattle.receive_rules.specs.declared.Receiver.{Receiver}
 use Rattle.receive_rules.specs.Frame.{Frame, Rx, isComing, room}
-use Rattle.receive_rules.specs.Reading.{readable}
+use Rattle.receive_rules.specs.Reading.{readable, earlyLeast}
 
 -- 8 to 1,792 bytes
 abbrev pub sized : ℕ → Bool
@@ -24,14 +24,14 @@ inOrder storing [] = not storing
 inOrder storing (f ∷ []) = cond storing (started f) (ended f)
 inOrder storing (f ∷ g ∷ fs) = ended f && inOrder storing (g ∷ fs)
 
--- What every effect keeps: the frames fit in `size`, the wire is idle, ignored or stored, no more was read than may be, the threshold is an argument's, and RX Early stands only for a frame that it was set for.
+-- What every effect keeps: the frames fit in `size`, the wire is idle, ignored or stored, no more was read than may be, the threshold is an argument's and at least 8, and RX Early stands only for a frame that it was set for.
 abbrev pub kept : ℕ → Rx → Bool
 kept size x =
     leb (room (x .frames)) size
     && leb (x .receiver .wire) 2
     && inOrder (eqb (x .receiver .wire) 2) (x .frames)
     && leb (x .receiver .read) (readable (x .frames))
-    && leb (x .receiver .threshold) 2047
+    && (leb earlyLeast (x .receiver .threshold) && leb (x .receiver .threshold) 2047)
     && (x .receiver .told || not (x .receiver .early))
 
 -- RX Early was set for the oldest frame if it is due, and for no other.

@@ -36,7 +36,7 @@ use Rattle.runs.specs.Sound.{fresh, Every-step-keeps-soundness}
 settled : (a : Adapter) → Keeping a → sound (settle a) ≡ true
 settled a k = settle-sound a (k .is)
 
-effect-keeps : (x : Access) (a : Adapter) → sound a ≡ true → Keeping ((effect x a) .adapter)
+pub effect-keeps : (x : Access) (a : Adapter) → sound a ≡ true → Keeping ((effect x a) .adapter)
 unfolding effect afterWord
 effect-keeps (ReadWord o) a s = of-cond Keeping (ltb o 4 && eqb (a .select .window) 1) (keeps.taken-keeps a s) (record { is = kept-of a s })
 effect-keeps (ReadByte o) a s = record { is = kept-of a s }

@@ -41,11 +41,11 @@ early-settled-requires c κs = packed (c .before .before .before .before .before
 returns-3 : tie.Need-returns-3
 unfolding soundSide
 returns-3 c =
-    let o = c .before .before .before .before .before .before .before .before .before .before .before .before .before in
+    let o = c .before .before .before .before .before .before .before .before .before .before .before .before .before .before in
     let s = o .args in
-    let S = packed o _ (c .before .before .before .before .before .before .before .before .before .before .if1 .left) (c .before .before .before .before .before .before .before .before .before .used .ensures) (c .before .before .before .before .before .before .before .before .if2 .left) in
+    let S = packed o _ (c .before .before .before .before .before .before .before .before .before .before .before .if1 .left) (c .before .before .before .before .before .before .before .before .before .before .used .ensures) (c .before .before .before .before .before .before .before .before .before .if2 .left) in
     let k = le-leb (store.roomOf (store.part 0 (s .r .frames) (s .dir .now))) (s .size) (S .room) in
-    rw (c .before .before .before .before .early-settled .ensures, c .before .before .before .before .before .readable-bytes .ensures .0, c .before .before .before .before .before .before .in-order .ensures, le-leb _ _ (c .before .before .before .before .before .before .before .before .before .before .if1 .left), room-of (s .size) (s .r .frames) (s .ram .now) (s .dir .now) S, k)
+    rw (c .before .before .before .before .before .early-settled .ensures, c .before .before .before .before .before .before .readable-bytes .ensures .0, c .before .before .before .before .before .before .before .in-order .ensures, le-leb _ _ (c .before .before .before .before .before .before .before .before .before .before .before .if1 .left), room-of (s .size) (s .r .frames) (s .ram .now) (s .dir .now) S, k)
 
 pub rx-sound-spec : {M : Type 1} → statement M
 rx-sound-spec =

@@ -39,6 +39,15 @@ static unsigned interrupt_line(void)
     return line;
 }
 
+/* What a debugger shows of RX Status, in whatever window the guest is: the unread bytes, below 0 past the end. */
+static int unread_bytes(void)
+{
+    uint16_t word;
+    int16_t unread = 0;
+    (void)seamtrout_rx_status(&card, &word, &unread);
+    return unread;
+}
+
 /* A frame of n bytes, 8 or more, without check bytes, from the network. */
 static void frame_in(const uint8_t *bytes, size_t n)
 {
@@ -80,7 +89,8 @@ int main(void)
     printf("interrupt line %u, ", interrupt_line());
     frame_in(frame, sizeof frame);
     printf("then %u, RX Status %04X, ", interrupt_line(), (unsigned)port_in(0x308, 1));
-    printf("first word %04X\n", (unsigned)port_in(0x300, 1));
+    printf("first word %04X, ", (unsigned)port_in(0x300, 1));
+    printf("%d bytes unread\n", unread_bytes());
 
     /* The guest writes a packet of 14 bytes; the network takes it. */
     port_out(0x300, 0x8000 | 14, 1);

@@ -115,6 +115,7 @@ struct seamtrout_raw_read { struct seamtrout_card card; uint16_t value; uint8_t 
 struct seamtrout_raw_told { struct seamtrout_card card; size_t n; uint8_t code; };
 struct seamtrout_raw_bit { uint8_t bit, code; };
 struct seamtrout_raw_line { uint16_t line; uint8_t code; };
+struct seamtrout_raw_rx_status { uint16_t word; int16_t unread; uint8_t code; };
 struct seamtrout_raw_opened { struct seamtrout_card card; struct seamtrout_driver driver; uint8_t code; };
 struct seamtrout_raw_sent { struct seamtrout_card card; struct seamtrout_driver driver; uint16_t ticket; uint8_t code; };
 struct seamtrout_raw_service { uint8_t kind, code; uint16_t ticket, status; size_t n; };
@@ -150,6 +151,7 @@ struct seamtrout_raw_done seamtrout_card_id_write(const uint8_t *ram, const uint
 struct seamtrout_raw_bit seamtrout_card_id_bit(const uint8_t *ram, const uint16_t *dir, struct seamtrout_card c, uint16_t port);
 struct seamtrout_raw_done seamtrout_card_id_hear(const uint8_t *ram, const uint16_t *dir, struct seamtrout_card c, uint16_t port, uint8_t bus);
 struct seamtrout_raw_line seamtrout_card_interrupt_line(const uint8_t *ram, const uint16_t *dir, struct seamtrout_card c);
+struct seamtrout_raw_rx_status seamtrout_card_rx_status(const uint8_t *ram, const uint16_t *dir, struct seamtrout_card c);
 struct seamtrout_raw_opened seamtrout_driver_open(uint8_t *ram, uint16_t *dir, struct seamtrout_card c, struct seamtrout_driver d, uint16_t w0, uint16_t w1, uint16_t w2);
 struct seamtrout_raw_sent seamtrout_driver_send(uint8_t *ram, uint16_t *dir, struct seamtrout_card c, struct seamtrout_driver d, const uint8_t *packet, size_t n);
 struct seamtrout_raw_served seamtrout_driver_service(uint8_t *ram, uint16_t *dir, struct seamtrout_card c, struct seamtrout_driver d, uint16_t budget, uint8_t *ahead, size_t ahead_n, uint8_t *frame, size_t frame_n);
@@ -194,6 +196,7 @@ SEAMTROUT_ASSERT(sent_size, sizeof(struct seamtrout_raw_sent) == 280);
 SEAMTROUT_ASSERT(service_size, sizeof(struct seamtrout_raw_service) == 16);
 SEAMTROUT_ASSERT(served_size, sizeof(struct seamtrout_raw_served) == 296);
 SEAMTROUT_ASSERT(line_size, sizeof(struct seamtrout_raw_line) == 4);
+SEAMTROUT_ASSERT(rx_status_size, sizeof(struct seamtrout_raw_rx_status) == 6 && offsetof(struct seamtrout_raw_rx_status, code) == 4);
 SEAMTROUT_ASSERT(part_size, sizeof(struct seamtrout_raw_part) == 16 && offsetof(struct seamtrout_raw_part, n) == 8);
 SEAMTROUT_ASSERT(image_size, sizeof(struct seamtrout_raw_image) == 8);
 SEAMTROUT_ASSERT(bus_size, sizeof(struct seamtrout_raw_bus) == 1112);
@@ -372,6 +375,20 @@ static inline int seamtrout_interrupt_line(const struct seamtrout *s, uint16_t *
     if (!r.code)
         *line = r.line;
     return r.code;
+}
+
+/* RX Status, register 08h of window 1, whatever window is selected: its raw word, and the unread bytes
+ * of the oldest frame as a signed number, -3 to 1,792. They are its stored bytes less the bytes read,
+ * below 0 once pad is read. FFFFh and 0 from an inactive card, 8000h and 0 with no frame stored;
+ * nothing changes. (1) */
+static inline int seamtrout_rx_status(const struct seamtrout *s, uint16_t *word, int16_t *unread)
+{
+    struct seamtrout_raw_rx_status r = seamtrout_card_rx_status(s->ram, s->dir, s->card);
+    if (r.code)
+        return r.code;
+    *word = r.word;
+    *unread = r.unread;
+    return 0;
 }
 
 /* The driver's open, with the station address as EEPROM words 00h to 02h. (1) */

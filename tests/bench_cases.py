@@ -59,6 +59,16 @@ class Script:
             self.ok('bytes ' + hexed(bytes_[8:]))
         self.ok('end ' + end)
 
+    def rx(self, bits, unread):
+        """RX Status with its signed count: bits 15-11 as given, bits 10-0 two's complement."""
+        self.do('rx', 'rx %04X unread %d' % (bits | unread & 0x7FF, unread))
+
+    def read(self, bytes_, start, end):
+        """The data words of a frame from a place to a place, low byte first; pad reads 0."""
+        padded = bytes_ + bytes(-len(bytes_) % 4)
+        for i in range(start, end, 2):
+            self.do('rw 0', '= %04X' % int.from_bytes(padded[i:i + 2], 'little'))
+
     def write_packet(self, data, first):
         """A packet by the host's own hands: two preamble words, the data padded to 4."""
         self.ok('ww 0 %04X' % first, 'ww 0 0000')
@@ -135,14 +145,16 @@ def bench_table():
     s.say('61 bytes after 31 words show 07FFh, after 32 show 07FDh. A word has its low byte first; the pad reads 0.')
     f = frame(61)
     s.frame(f)
-    for i in range(0, 62, 2):
-        s.do('rw 0', '= %04X' % int.from_bytes((f + b'\0')[i:i + 2], 'little'))
+    s.read(f, 0, 62)
     s.do('rw 8', '= 07FF')
+    s.rx(0, 61 - 62)
     s.do('rw 2', '= 0000')
     s.do('rw 8', '= 07FD')
+    s.rx(0, 61 - 64)
     s.say('RX Discard (command 8), and the store is empty.')
     s.ok('ww E 4000')
     s.do('rw 8', '= 8000')
+    s.rx(0x8000, 0)
     s.say('A search costs 566 for no cards (an address of all ones is not found), 1,184 for 2, 2,421 for 7.')
     s.power(at('FFFFFFFFFFFF'))
     s.do('search 1F0', 'found 0 accesses 566')
@@ -233,6 +245,7 @@ def refusals():
     s.do('service 10', 'idle accesses 2')
     s.say('5: Adapter Failure. A read of the empty store is a receive failure, until RX Reset (command 5) and RX Enable (4).')
     s.do('rw 0', '= 0000')
+    s.rx(0x8000, 0)
     s.do('rw E', '= 2002')
     s.do('service 10', 'refused 5')
     s.ok('ww E 2800', 'ww E 2000')
@@ -396,6 +409,117 @@ def threshold():
     s.do('rw 6', '= 07FC')
 
 
+def unread():
+    s = Script('unread', 'The reading of RX Status with its signed count: the stored bytes of the oldest frame less the bytes read.',
+               'Bits 10-0 of its word hold that number, -3 to 1,792, in two\'s complement.')
+    s.say('An inactive card: all ones, and 0. The line has no operand.')
+    s.do('rx', 'rx FFFF unread 0')
+    s.do('rx 8', 'what?')
+    s.awake()
+    s.say('An empty store, in window 0 and opened in window 1.')
+    s.rx(0x8000, 0)
+    s.ok('open 0020 AFC4 12E5')
+    s.rx(0x8000, 0)
+    s.do('rx 8', 'what?')
+    s.say('61 bytes: after 31 words a byte of the pad is read and the count is -1; after 32 all of it, -3.')
+    f = frame(61)
+    s.frame(f)
+    s.rx(0, 61)
+    s.read(f, 0, 60)
+    s.rx(0, 61 - 60)
+    s.read(f, 60, 62)
+    s.rx(0, 61 - 62)
+    s.do('rw 8', '= 07FF')
+    s.read(f, 62, 64)
+    s.rx(0, 61 - 64)
+    s.do('rw 8', '= 07FD')
+    s.say('The 33rd word finds fewer than 2 bytes: the failure. The count stays, and so it does at the next read and at a discard.')
+    s.do('rw E', '= 2010')
+    s.do('rw 0', '= 0000')
+    s.do('rw E', '= 2012')
+    s.rx(0, 61 - 64)
+    s.do('rw 0', '= 0000')
+    s.ok('ww E 4000')
+    s.rx(0, 61 - 64)
+    s.say('RX Reset (command 5); RX filter (16) and RX Enable (4) again. The store is empty.')
+    s.ok('ww E 2800', 'ww E 8005', 'ww E 2000')
+    s.rx(0x8000, 0)
+    s.say('By its length a frame\'s count ends at 0, -3, -2 or -1; here runts, error and code 3. After RX Discard the store is empty.')
+    for n, least in ((8, 0), (9, -3), (10, -2), (11, -1)):
+        s.frame(frame(n))
+        s.rx(0x5800, n)
+        s.read(frame(n), 0, n - least)
+        s.rx(0x5800, least)
+        s.do('rw E', '= 2010')
+        s.ok('ww E 4000')
+        s.rx(0x8000, 0)
+    s.say('A frame that is coming has no pad: 61 bytes have come, 30 words are read, 1 byte is left, and the next read is the failure.')
+    s.ok('start ' + hexed(f[:8]))
+    s.rx(0x8000, 8)
+    s.ok('bytes ' + hexed(f[8:]))
+    s.rx(0x8000, 61)
+    s.read(f, 0, 60)
+    s.rx(0x8000, 61 - 60)
+    s.do('rw E', '= 2000')
+    s.do('rw 0', '= 0000')
+    s.do('rw E', '= 2002')
+    s.rx(0x8000, 61 - 60)
+    s.say('The wire is stored as before; the end brings the pad, and the failure stands.')
+    s.ok('bytes 5A')
+    s.rx(0x8000, 62 - 60)
+    s.ok('end 11')
+    s.rx(0, 62 - 60)
+    s.do('rw 0', '= 0000')
+    s.rx(0, 62 - 60)
+    s.ok('ww E 2800', 'ww E 8005', 'ww E 2000')
+    s.say('Complete in time, the same 61 bytes have their pad: two words more. The check is bad: error, code 5.')
+    s.ok('start ' + hexed(f[:8]), 'bytes ' + hexed(f[8:]))
+    s.read(f, 0, 60)
+    s.ok('end 01')
+    s.rx(0x6800, 61 - 60)
+    s.read(f, 60, 62)
+    s.rx(0x6800, 61 - 62)
+    s.read(f, 62, 64)
+    s.rx(0x6800, 61 - 64)
+    s.do('rw 8', '= 6FFD')
+    s.do('rw E', '= 2010')
+    s.say('In every window the answer is that of window 1\'s register.')
+    for window in (0, 2, 3, 4, 5, 6, 7, 1):
+        s.ok('ww E %04X' % (0x0800 + window))
+        s.rx(0x6800, 61 - 64)
+    s.ok('ww E 4000')
+    s.say('The most: 1,792 bytes, still coming, and complete with code 1, longer than 1,514.')
+    s.ok('start ' + hexed(f[:8]), 'bytes ' + 'A5' * 1784)
+    s.rx(0x8000, 1792)
+    s.say('A byte more is dropped.')
+    s.ok('bytes A5')
+    s.rx(0x8000, 1792)
+    s.ok('end 11')
+    s.rx(0x4800, 1792)
+    s.do('rw 8', '= 4F00')
+    s.say('The answer is of the oldest frame: a good one behind it is counted when it stands in front.')
+    s.frame(frame(100))
+    s.rx(0x4800, 1792)
+    s.ok('ww E 4000')
+    s.rx(0, 100)
+    s.say('The driver takes a good count of 60 to 1,514 and drops others: 61 after one word is 59, 62 after one word is 60.')
+    s.ok('ww E 4000')
+    for n, read in ((61, 2), (61, 64)):
+        s.frame(frame(n))
+        s.read(frame(n), 0, read)
+        s.rx(0, n - read)
+        s.do('service 100', 'idle accesses 5')
+    s.frame(frame(62))
+    s.read(frame(62), 0, 2)
+    s.rx(0, 60)
+    s.do('service 100', 'frame look %s accesses 33' % hexed(frame(62)[2:]))
+    s.say('Global Reset (command 0): the card is inactive.')
+    s.frame(f)
+    s.rx(0, 61)
+    s.ok('ww E 0000')
+    s.do('rx', 'rx FFFF unread 0')
+
+
 def statuses():
     s = Script('statuses', 'The status stack is 31 deep.')
     s.opened()
@@ -519,7 +643,7 @@ def hostile():
     s.opened()
     s.lines += ['', '   ', '\t', '# rw E', '   # rw E', '#']
     for line in (
-            'rwe E', 'RW E', 'rw', 'rw E 0', 'rw G', 'rw 10000', 'rw -1', 'rw 0x0E', 'rw 1 # 2 #', 'ww E', 'ww E 0 0', 'ww E 10000', 'wb E 100',
+            'rwe E', 'RW E', 'rw', 'rw E 0', 'rx 0', 'rx 8', 'RX', 'rxx', 'r x', 'rx\r8', 'rw G', 'rw 10000', 'rw -1', 'rw 0x0E', 'rw 1 # 2 #', 'ww E', 'ww E 0 0', 'ww E 10000', 'wb E 100',
             'power', 'power 00', 'power ' + '0' * 255, 'power ' + '0' * 258, 'power ' + '0' * 255 + 'g', 'join 0',
             'start 00', 'start ' + '0' * 15, 'start ' + '0' * 18, 'start', 'bytes', 'bytes 0', 'bytes 0g', 'bytes 00 00',
             'end', 'end 1', 'end 111', 'end 12', 'end 21', 'end 1 1', 'sent 1', 'collided now', 'idw 110', 'idw 110 100', 'idr', 'idr 110 0',
@@ -532,6 +656,8 @@ def hostile():
     s.say('Understood: blanks in any number, either case of digits, zeros in front, a comment behind.')
     for line in ('rw E', '  rw \t 0e  ', 'rw 0000000E', 'rw e # Status', 'rw E#Status', 'rw E\r', 'rw E   \r'):
         s.do(line, '= 2000')
+    for line in ('rx', ' \trx', 'rx ', 'rx#8', 'rx # 8', 'rx\r'):
+        s.do(line, 'rx 8000 unread 0')
     s.do('service 00000000000000000000000002', 'idle accesses 2')
     s.do('service 65535', 'idle accesses 2')
     s.say('8,192 characters are a line; 8,193 are not. A carriage return before the newline does not count.')
@@ -603,7 +729,7 @@ EXAMPLES = ('first-session', 'three-cards', 'cut-image')
 
 
 def main():
-    for make in (first_session, bench_table, id_sequence, refusals, three_cards, damaged, overrun, early, threshold, statuses, collisions, eeprom, hostile, cut_image, registers):
+    for make in (first_session, bench_table, id_sequence, refusals, three_cards, damaged, overrun, early, threshold, unread, statuses, collisions, eeprom, hostile, cut_image, registers):
         make()
     os.makedirs(os.path.join(OUT, 'data'), exist_ok=True)
     out = []

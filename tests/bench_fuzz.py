@@ -4,7 +4,8 @@
     tests/bench_fuzz.py target/bin/bench [SCRIPTS [SEED]]
 
 It must never fail, answer each line that is not empty and no comment with one line of a form
-that the language has, and answer the same script the same way, in one piece or in many.
+that the language has, and answer the same script the same way, in one piece or in many. The word
+and the count that rx answers must agree, and the word with the register.
 """
 import random
 import re
@@ -14,6 +15,7 @@ import sys
 FORMS = re.compile(
     r'(ok|what\?|refused ([2-5]|1[123])|refused 6 accesses \d+|= [0-9A-F]{4}|= [0-9A-F]{2}|= [01]|wire ([0-9A-F]{2}){6,}'
     r'|found [0-7] accesses \d+( [0-9A-F]{12}){0,7}|ticket \d+|report \d+ [0-9A-F]{2} accesses \d+|status [0-9A-F]{2} accesses \d+'
+    r'|rx [0-9A-F]{4} unread (-[123]|\d+)'
     r'|frame look ([0-9A-F]{2}){60,256} accesses \d+|frame frame ([0-9A-F]{2}){257,1514} accesses \d+|idle accesses \d+)')
 
 # Values that lead somewhere: commands, offsets, preambles, EEPROM commands.
@@ -25,7 +27,7 @@ def hexes(r, n):
 
 
 def sensible(r):
-    kind = r.randrange(26)
+    kind = r.randrange(27)
     if kind < 2:
         return 'rw %X' % r.choice([0, 2, 4, 6, 8, 0xA, 0xC, 0xE])
     if kind == 2:
@@ -54,6 +56,8 @@ def sensible(r):
         return 'open 0020 AFC4 12E5'
     if kind == 22:
         return 'send ' + hexes(r, 2 * r.choice([13, 14, 60, 200, 1514, 1515]))
+    if kind == 23:
+        return 'rx'
     return 'service %d' % r.choice([0, 1, 2, 3, 4, 5, 33, 100, 1000, 65535])
 
 
@@ -79,7 +83,44 @@ def line(r):
 
 def script(r, n):
     lines = ['power ' + '0020AFC412E5' + hexes(r, 244), 'search 110', 'activate 110 1 31', 'open 0020 AFC4 12E5']
-    return lines + [line(r) for _ in range(n)]
+    for _ in range(n):
+        lines.append(line(r))
+        if r.random() < 0.03:
+            lines += ['rw E', 'rw 8', 'rx']
+    return lines
+
+
+def answered(lines):
+    """The lines that answer: those with a word, since a # starts a comment, and those that are too long."""
+    return [x for x in lines if x.split('#')[0].strip(' \t') not in ('', '\r') or len(x.removesuffix('\r')) > 8192]
+
+
+def offset_read(line, answer):
+    """The offset of a word that was read: rw alone answers with four digits."""
+    return int(line.split('#')[0].split()[1], 16) if re.fullmatch('= [0-9A-F]{4}', answer) else None
+
+
+def judge_rx(asked, told):
+    """Judges each rx; answers how many were held to the register, and how many told a count below 0.
+
+    The count is what bits 10-0 of the word say, two's complement; an inactive card tells FFFF and 0.
+    Where `rw E`, `rw 8` and `rx` follow one another, Status has the window in bits 15-13 (all ones, of an
+    inactive card, would be window 7). In window 1 the last two tell the same word: none changes anything.
+    """
+    held = below = 0
+    for i, answer in enumerate(told):
+        if not answer.startswith('rx '):
+            continue
+        word, unread = int(answer.split()[1], 16), int(answer.split()[3])
+        count = word & 0x7FF
+        assert unread == (0 if word == 0xFFFF else count - 2048 if count > 1792 else count), (i, answer)
+        below += unread < 0
+        if i < 2 or [offset_read(asked[k], told[k]) for k in (i - 2, i - 1)] != [0xE, 8]:
+            continue
+        if int(told[i - 2][2:], 16) >> 13 == 1:
+            assert told[i - 1] == '= %04X' % word, (i, told[i - 1], answer)
+            held += 1
+    return held, below
 
 
 def play(program, text):
@@ -110,7 +151,7 @@ def main():
     program = sys.argv[1]
     scripts = int(sys.argv[2]) if len(sys.argv) > 2 else 50
     seed = int(sys.argv[3]) if len(sys.argv) > 3 else 509
-    lines = 0
+    lines = held = 0
     for k in range(scripts):
         r = random.Random(seed * 100003 + k)
         s = script(r, 400)
@@ -118,15 +159,16 @@ def main():
         answer = play(program, text)
         told = answer.decode().split('\n')
         assert told.pop() == ''
-        # Only a line with a word answers: a # starts a comment, and a line that is too long is answered.
-        asked = [x for x in s if x.split('#')[0].strip(' \t') not in ('', '\r') or len(x) > 8192]
+        asked = answered(s)
         assert len(told) == len(asked), (k, len(told), len(asked))
         for a, t in zip(asked, told):
             assert FORMS.fullmatch(t), (k, a[:60], t[:80])
+        held += judge_rx(asked, told)[0]
         if k % 10 == 0:
             assert in_pieces(program, text, r) == answer
         lines += len(s)
-    print('%d scripts, %d lines: every line answered' % (scripts, lines))
+    assert held, 'no rx was held to the register'
+    print('%d scripts, %d lines: every line answered; %d times rx tells what rw 8 does' % (scripts, lines, held))
 
 
 if __name__ == '__main__':

@@ -72,6 +72,15 @@ class Script:
     def rb(self, offset):
         self.say('rb', self.hex(offset, 2))
 
+    def rx(self):
+        self.say('rx')
+
+    def rx_status(self):
+        """RX Status by the host's hands and by its reading; Status before them tells the window."""
+        self.rw(0x0E)
+        self.rw(0x08)
+        self.rx()
+
     def command(self, number, argument=0):
         word = number << 11 | argument & 0x7FF
         if self.r.random() < 0.1:
@@ -162,6 +171,8 @@ class Script:
             self.power()
         while self.cards < 9 and self.r.random() < 0.2:
             self.join()
+        if self.r.random() < 0.3:
+            self.rx()
         if self.r.random() < 0.95:
             self.activation()
         if self.r.random() < 0.95:
@@ -189,6 +200,8 @@ class Script:
             self.rw(r.choice([offset, 0x10, 0xFFFF, 0x1E]))
         elif kind < 0.64:
             self.wb(r.choice([0x10, 0, 1, 2, 3, 0x100E]), r.randrange(256))
+        elif kind < 0.68:
+            self.rx()
         else:
             self.any_command()
 
@@ -218,6 +231,7 @@ class Script:
             self.window(w)
             for o in range(0 if w != 1 else 4, 16, 2):
                 self.rw(o)
+            self.rx()
         self.window(1)
 
     def back_to_work(self):
@@ -258,7 +272,7 @@ class Script:
             self.say('bytes', self.data(rest[:cut]))
             rest = rest[cut:]
             while busy and r.random() < 0.6:
-                r.choice([self.poke, self.poke, self.service, self.read_data, lambda: self.rw(0x08),
+                r.choice([self.poke, self.poke, self.service, self.read_data, self.rx_status,
                           lambda: self.command(17, r.randrange(0, 80)), lambda: self.command(8)])()
         if good is None:
             good = r.random() < 0.7
@@ -282,7 +296,26 @@ class Script:
     def read_data(self):
         for _ in range(self.r.choice([1, 1, 2, 3, 4, 5, 30, 31, 32])):
             self.rw(self.r.choice([0, 0, 2]))
-        self.rw(0x08)
+        self.rx_status()
+
+    def past_the_end(self):
+        """A short frame read by hand, up to its end and beyond it, with the count along the way."""
+        r = self.r
+        if r.random() < 0.7:
+            self.back_to_work()
+            self.command(8)
+        length = r.choice([8, 9, 10, 11, 59, 60, 61, 61, 62, 63, 64])
+        self.frame(length)
+        for _ in range((length + 3) // 4 * 2 + r.choice([-1, 0, 0, 0, 1, 2])):
+            self.rw(r.choice([0, 0, 2]))
+            if r.random() < 0.2:
+                self.rx()
+        self.rx_status()
+        if r.random() < 0.3:
+            self.window(r.randrange(8))
+            self.rx_status()
+            self.window(1)
+        r.choice([self.service, self.mend, lambda: self.command(8), lambda: self.command(5)])()
 
     def frames_and_service(self):
         for _ in range(self.r.randrange(1, 5)):
@@ -302,7 +335,7 @@ class Script:
         self.window(1)
         for _ in range(self.r.randrange(0, 9)):
             self.say('service', self.r.choice(['65535', '900', '760', '20']))
-            self.rw(0x08)
+            self.rx_status()
 
     def service(self):
         r = self.r
@@ -480,7 +513,8 @@ class Script:
     def hostile(self):
         r = self.r
         words = ['power', 'join', 'rw', 'rb', 'ww', 'wb', 'start', 'bytes', 'end', 'sent', 'collided', 'idw', 'idr',
-                 'search', 'activate', 'open', 'send', 'service', 'RW', 'Sent', 'what?', 'ok', '', '=', 'frame']
+                 'search', 'activate', 'open', 'send', 'service', 'rx', 'rx', 'RW', 'RX', 'Sent', 'what?', 'ok', '', '=',
+                 'frame']
         kind = r.random()
         if kind < 0.3:
             self.say(r.choice(words), *(r.choice(['0', '0E', 'E', '00E', '0000E', '00000E', 'G', '110', '-1', 'FFFF',
@@ -494,7 +528,7 @@ class Script:
             n = r.choice([8192, 8193, 8191, 9000, 20000])
             body = r.choice(['rw 0E' + ' ' * n, '#' + 'x' * n, ' ' * n, 'bytes ' + 'A5' * n, 'send ' + '00' * n,
                              'rw 0E #' + ' ' * n, 'x' * n])
-            self.out.append(body[:n])
+            self.out.append(body[:n] + r.choice(['', '', '\r']))
         elif kind < 0.6:
             digits = r.choice([255, 256, 257, 252, 260, 4, 0])
             text = ''.join(r.choice('0123456789abcdefABCDEF') for _ in range(digits))
@@ -531,7 +565,8 @@ class Script:
         scenes = [(self.frames_and_service, 14), (self.sends, 12), (self.flood, 2), (self.fill_tx, 3), (self.packets, 6),
                   (self.fill_stack, 2), (self.pokes, 8), (self.eeprom, 4), (self.split, 3), (self.id_play, 3),
                   (self.bus, 1), (self.strays, 6), (self.hostile, 8), (self.mend, 8), (self.service, 6),
-                  (self.read_data, 3), (self.all_windows, 1), (self.life, 2), (self.early, 2)]
+                  (self.read_data, 3), (self.all_windows, 1), (self.life, 2), (self.early, 2),
+                  (self.past_the_end, 4)]
         working = [self.frames_and_service, self.sends, self.flood, self.fill_tx, self.fill_stack, self.service]
         kinds, weights = zip(*scenes)
         if self.r.random() < 0.9:

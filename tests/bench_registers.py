@@ -8,6 +8,7 @@ def sleeping(r):
         r.read(o, 0xFFFF, 'inactive: all ones')
     for o in range(16):
         r.byte(o, 0xFF, 'inactive: all ones')
+    r.row('rx', 'rx FFFF unread 0', 'inactive: all ones, nothing unread')
     for o, word in ((0, 0x1111), (2, 0x2222), (4, 0x0001), (6, 0x3333), (8, 0x4444), (0xA, 0x0083), (0xC, 0x5555)):
         r.write(o, word, 'inactive: ignored')
     r.write(0xE, 0x0805, 'inactive: no Select Window')

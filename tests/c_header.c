@@ -209,6 +209,40 @@ static void interrupt_line(void)
         }
 }
 
+/* RX Status with its signed count: a frame of 61 bytes read word by word to the failure, in every window. */
+static void unread_bytes(void)
+{
+    static struct seamtrout s, before;
+    static uint8_t bytes[1800];
+    uint16_t words[64], window, word = 99;
+    int16_t unread = 99;
+    int read;
+    words_of(words);
+    memset(bytes, 0xFF, sizeof bytes);
+    seamtrout_power_on(&s, words);
+    EXPECT(seamtrout_rx_status(&s, &word, &unread) == 0 && word == 0xFFFF && unread == 0);
+    wake(&s, 0x110);
+    EXPECT(seamtrout_id_write(&s, 0x110, 0xFF) == 0 && seamtrout_open(&s, node[0], node[1], node[2]) == 0);
+    EXPECT(seamtrout_rx_status(&s, &word, &unread) == 0 && word == 0x8000 && unread == 0);
+    frame_in(&s, bytes, 61, true);
+    for (read = 0; read <= 33; read++) {
+        int left = read < 32 ? 61 - 2 * read : -3;
+        for (window = 0; window < 8; window++) {
+            EXPECT(seamtrout_write_word(&s, 0x0E, (uint16_t)(1 << 11 | window)) == 0);
+            before = s;
+            EXPECT(seamtrout_rx_status(&s, &word, &unread) == 0 && unread == left && word == (left < 0 ? 2048 + left : left));
+            EXPECT(memcmp(&before, &s, sizeof s) == 0);
+        }
+        EXPECT(seamtrout_write_word(&s, 0x0E, 1 << 11 | 1) == 0 && word_at(&s, 0x08) == word);
+        EXPECT(word_at(&s, 0x0E) == (read <= 32 ? 0x2010 : 0x2012)); /* the 33rd word is the failure */
+        (void)word_at(&s, 0x00);
+    }
+    EXPECT(seamtrout_write_word(&s, 0x0E, 5 << 11) == 0 && seamtrout_write_word(&s, 0x0E, 16 << 11 | 4) == 0);
+    EXPECT(seamtrout_write_word(&s, 0x0E, 4 << 11) == 0);
+    frame_in(&s, bytes, sizeof bytes, true);
+    EXPECT(seamtrout_rx_status(&s, &word, &unread) == 0 && word == 0x4F00 && unread == 1792);
+}
+
 /* The part handed up lies in the area that its length names; an area too short hands up nothing. */
 static void hand_up(void)
 {
@@ -370,6 +404,7 @@ static void unsound(void)
     struct seamtrout_answer a;
     uint64_t found[7];
     uint16_t words[64], v;
+    int16_t unread = 77;
     size_t n;
     uint8_t b;
     words_of(words);
@@ -383,6 +418,7 @@ static void unsound(void)
     EXPECT(seamtrout_id_write(&s, 0x100, 0) == 1 && seamtrout_id_read(&s, 0x100, &b) == 1);
     v = 99;
     EXPECT(seamtrout_interrupt_line(&s, &v) == 1 && v == 99);
+    EXPECT(seamtrout_rx_status(&s, &v, &unread) == 1 && v == 99 && unread == 77);
     EXPECT(seamtrout_open(&s, 1, 2, 3) == 1 && seamtrout_send(&s, out, 60, &v) == 1);
     EXPECT(seamtrout_service(&s, 9, look, 256, area, 1514, &a) == 1);
     EXPECT(seamtrout_search(&at, 1, 0x100, found, &n, &n) == 1);
@@ -394,6 +430,7 @@ int main(void)
     layout();
     driver();
     interrupt_line();
+    unread_bytes();
     hand_up();
     ports();
     images();

@@ -108,6 +108,19 @@ fn rounded(length: u16) -> u16 {
     (length + 3) & !3
 }
 
+/// A count of unread bytes in bits 10-0 of RX Status, two's complement.
+fn encoded(unread: i16) -> u16 {
+    unread as u16 & COUNT
+}
+
+/// And back: no count is above 1,792, so what is there stands for one below 0.
+fn decoded(status: u16) -> i16 {
+    match status & COUNT {
+        count @ ..=LONGEST_STORED => count as i16,
+        count => count as i16 - (COUNT + 1) as i16,
+    }
+}
+
 fn with_low(word: u16, byte: u8) -> u16 {
     word & 0xFF00 | u16::from(byte)
 }
@@ -224,25 +237,27 @@ impl Receiver {
         }
     }
 
+    /// Stored bytes of the oldest frame less bytes read: below 0 once pad is read. 0 without a frame.
+    fn unread(&self) -> i16 {
+        self.frames.front().map_or(0, |frame| frame.stored as i16 - self.read as i16)
+    }
+
     fn status(&self) -> u16 {
-        match self.frames.front() {
-            None => INCOMPLETE,
-            Some(frame) => frame.ended.unwrap_or(INCOMPLETE) | frame.stored.wrapping_sub(self.read) & COUNT,
-        }
+        let bits = self.frames.front().and_then(|frame| frame.ended);
+        bits.unwrap_or(INCOMPLETE) | encoded(self.unread())
     }
 
     fn complete(&self) -> bool {
         self.frames.front().is_some_and(|frame| frame.ended.is_some())
     }
 
-    /// A word of the oldest frame. Fewer than two readable bytes are a receive failure.
+    /// A word of the oldest frame. It fails if fewer than 2 bytes are left, pad included once the frame is complete.
     fn take_word(&mut self) -> u16 {
-        let readable = match self.frames.front() {
-            None => 0,
-            Some(frame) if frame.ended.is_some() => rounded(frame.stored) - self.read,
-            Some(frame) => frame.stored - self.read,
+        let pad = match self.frames.front() {
+            Some(frame) if frame.ended.is_some() => rounded(frame.stored) - frame.stored,
+            _ => 0,
         };
-        if self.failed || readable < 2 {
+        if self.failed || self.unread() + (pad as i16) < 2 {
             self.failed = true;
             return 0;
         }
@@ -532,6 +547,14 @@ impl Card {
             0 | 1 | 2 | 4 | 6 | 8 | 13 | 14 => None,
             line => Some(line),
         }
+    }
+
+    /// RX Status as window 1 has it, and the unread bytes.
+    fn rx_status(&self) -> (u16, i16) {
+        if !self.active {
+            return (0xFFFF, 0);
+        }
+        (self.rx.status(), self.rx.unread())
     }
 
     /// A register other than the FIFOs' data; reading it changes nothing.
@@ -997,6 +1020,11 @@ impl Model {
     pub fn interrupt_line(&self) -> Result<u16, u8> {
         Ok(self.card.interrupt_line().unwrap_or(0))
     }
+
+    /// RX Status in whatever window, and the unread bytes of the oldest frame.
+    pub fn rx_status(&self) -> Result<(u16, i16), u8> {
+        Ok(self.card.rx_status())
+    }
 }
 
 // The driver. It touches the card by register steps alone.
@@ -1097,10 +1125,11 @@ impl Model {
             }
             claim(left, 1)?;
             let status = self.read_word(RX_STATUS)?;
-            let count = status & COUNT;
-            if status & ERROR == 0 && (SHORTEST..=LONGEST).contains(&count) {
-                let area = if usize::from(count) <= LOOKAHEAD { look } else { frame };
-                return self.hand_up(left, &mut area[..usize::from(count)]);
+            let count = decoded(status);
+            if status & ERROR == 0 && (SHORTEST as i16..=LONGEST as i16).contains(&count) {
+                let count = count as usize;
+                let area = if count <= LOOKAHEAD { look } else { frame };
+                return self.hand_up(left, &mut area[..count]);
             }
             claim(left, 1)?;
             self.order(RX_DISCARD, 0)?;

@@ -162,6 +162,13 @@ pub struct Line {
 }
 
 #[repr(C)]
+pub struct RxStatus {
+    pub word: u16,
+    pub unread: i16,
+    pub code: u8,
+}
+
+#[repr(C)]
 pub struct Opened {
     pub card: Card,
     pub driver: Driver,
@@ -247,6 +254,7 @@ extern "C" {
     pub fn seamtrout_card_id_bit(ram: &Ram, dir: &Dir, c: Card, port: u16) -> Bit;
     pub fn seamtrout_card_id_hear(ram: &Ram, dir: &Dir, c: Card, port: u16, bus: u8) -> Done;
     pub fn seamtrout_card_interrupt_line(ram: &Ram, dir: &Dir, c: Card) -> Line;
+    pub fn seamtrout_card_rx_status(ram: &Ram, dir: &Dir, c: Card) -> RxStatus;
     pub fn seamtrout_driver_open(ram: &mut Ram, dir: &mut Dir, c: Card, d: Driver, w0: u16, w1: u16, w2: u16) -> Opened;
     pub fn seamtrout_driver_send(ram: &mut Ram, dir: &mut Dir, c: Card, d: Driver, packet: *const u8, n: usize) -> Sent;
     pub fn seamtrout_driver_service(
@@ -280,7 +288,8 @@ const _: () = {
     assert!(size_of::<Driver>() == 6);
     assert!(size_of::<Done>() == 272 && size_of::<Read>() == 272 && size_of::<Told>() == 280);
     assert!(size_of::<Opened>() == 272 && size_of::<Sent>() == 280 && size_of::<Served>() == 296);
-    assert!(size_of::<Line>() == 4 && size_of::<Part>() == 16 && offset_of!(Part, n) == 8);
+    assert!(size_of::<Line>() == 4 && size_of::<RxStatus>() == 6 && offset_of!(RxStatus, code) == 4);
+    assert!(size_of::<Part>() == 16 && offset_of!(Part, n) == 8);
     assert!(size_of::<Image>() == 8 && size_of::<Bus>() == 1112);
     assert!(size_of::<Found>() == 1192 && size_of::<Activated>() == 1128);
 };

@@ -184,6 +184,16 @@ impl Seamtrout {
         Ok(r.line)
     }
 
+    /// RX Status, window 1's register, whatever window is selected: its raw word, and the unread bytes of the
+    /// oldest frame, -3 to 1,792. FFFFh and 0 from an inactive card, 8000h and 0 with no frame stored.
+    pub fn rx_status(&self) -> Result<(u16, i16), u8> {
+        let r = unsafe { raw::seamtrout_card_rx_status(&self.ram, &self.dir, self.card) };
+        if r.code != 0 {
+            return Err(r.code);
+        }
+        Ok((r.word, r.unread))
+    }
+
     /// The driver's open, with the station address as EEPROM words 00h to 02h.
     pub fn open(&mut self, w: [u16; 3]) -> Result<(), u8> {
         let r = unsafe {

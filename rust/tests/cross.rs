@@ -61,13 +61,16 @@ struct Tally {
     /// The latch set and the drivers enabled, by the IRQ field; the latch set in window 0, and without ENA.
     irqs: [u64; 16],
     disabled: [u64; 2],
+    /// Unread bytes of an active card: -3, -2, -1, 0 of a frame, more, 0 of an empty store; outside window 1.
+    unread: [u64; 6],
+    elsewhere: u64,
 }
 
 impl Tally {
     fn shown(&self) -> String {
         format!(
-            "refusals {:?}, reports {}, statuses {}, frames {:?}, idle {}, codes {:?}, full {}, irqs {:?}, disabled {:?}",
-            self.refusals, self.reports, self.statuses, self.frames, self.idle, self.codes, self.full, self.irqs, self.disabled
+            "refusals {:?}, reports {}, statuses {}, frames {:?}, idle {}, codes {:?}, full {}, irqs {:?}, disabled {:?}, unread {:?}, elsewhere {}",
+            self.refusals, self.reports, self.statuses, self.frames, self.idle, self.codes, self.full, self.irqs, self.disabled, self.unread, self.elsewhere
         )
     }
 }
@@ -154,14 +157,16 @@ impl Pair {
         }
     }
 
-    /// What shows without a step: the card's lines, and Status.
+    /// What shows without a step: the card's lines, Status, and RX Status.
     fn glance(&mut self) {
         both!(self, active());
         both!(self, base());
         both!(self, latch());
         both!(self, interrupt_line());
         both!(self, read_word(0x0E));
-        self.told.truncate(self.told.len() - 5);
+        let (word, unread) = both!(self, rx_status()).unwrap();
+        self.told.truncate(self.told.len() - 6);
+        self.judge_unread(word, unread);
         let c = self.proved.card();
         if c.lines.latch {
             match (c.select.window, c.config.enabled) {
@@ -171,6 +176,28 @@ impl Pair {
                 _ => {}
             }
         }
+    }
+
+    /// In window 1 the word is what 08h reads; in any, bits 10-0 are the count, 11 bits of two's complement.
+    fn judge_unread(&mut self, word: u16, unread: i16) {
+        let c = self.proved.card();
+        let (window, frames) = (c.select.window, c.receive.frames);
+        if !c.id.active {
+            if (word, unread) != (0xFFFF, 0) {
+                self.differs(&format!("RX Status {word:04X} with {unread} unread bytes, of an inactive card"));
+            }
+            return;
+        }
+        let count = (word & 0x7FF) as i16;
+        let signed = if count > 1792 { count - 2048 } else { count };
+        if signed != unread || !(-3..=1792).contains(&unread) || frames == 0 && (word, unread) != (0x8000, 0) {
+            self.differs(&format!("RX Status {word:04X} with {unread} unread bytes"));
+        }
+        if window == 1 && self.proved.read_word(0x08) != Ok(word) {
+            self.differs(&format!("RX Status {word:04X} is not what 08h reads"));
+        }
+        self.tally.elsewhere += (window != 1) as u64;
+        self.tally.unread[if frames == 0 { 5 } else { (unread + 3).min(4) as usize }] += 1;
     }
 
     fn activate(&mut self) {
@@ -307,6 +334,36 @@ impl Pair {
         }
         let (check, alignment) = (!r.one_in(5), !r.one_in(6));
         both!(self, wire_end(check, alignment));
+    }
+
+    /// A frame read by the host word by word, while it comes and after, up to its end and beyond.
+    fn past_the_end(&mut self, r: &mut Random) {
+        let n = 8 + r.below(60) as usize;
+        let first = std::array::from_fn(|i| if i < 6 { STATION[i] } else { r.byte() });
+        both!(self, wire_start(first));
+        for _ in 8..n {
+            let b = r.byte();
+            both!(self, wire_byte(b));
+            if r.one_in(16) {
+                both!(self, read_word(0x00));
+                self.glance();
+            }
+        }
+        if !r.one_in(8) {
+            let check = !r.one_in(4);
+            both!(self, wire_end(check, true));
+        }
+        self.glance();
+        for _ in 0..(n + 3) / 4 * 2 + r.below(2) as usize {
+            both!(self, read_word(0x00));
+            self.glance();
+        }
+        if r.one_in(4) {
+            let window = 1 << 11 | r.below(8) as u16;
+            both!(self, write_word(0x0E, window));
+            self.glance();
+            both!(self, write_word(0x0E, 1 << 11 | 1));
+        }
     }
 
     fn send(&mut self, r: &mut Random) {
@@ -539,7 +596,7 @@ impl Pair {
 #[test]
 fn sensible_runs() {
     let mut r = Random(number("SEAMTROUT_SEED", 0x9E37_79B9));
-    let (wanted, mut tally) = (steps(600_000), Tally::default());
+    let (wanted, mut tally) = (steps(1_000_000), Tally::default());
     while tally.calls < wanted {
         let mut words = r.words();
         words[..3].copy_from_slice(&NODE);
@@ -547,7 +604,7 @@ fn sensible_runs() {
         p.activate();
         both!(p, open(NODE)).unwrap();
         for turn in 0..400 {
-            match r.below(40) {
+            match r.below(42) {
                 0..=7 => p.frame(&mut r),
                 8..=21 => p.service(&mut r),
                 22..=27 => p.send(&mut r),
@@ -557,6 +614,7 @@ fn sensible_runs() {
                 36 => p.flood(&mut r),
                 37 => p.burst(&mut r),
                 38 => p.interrupts(&mut r),
+                39 | 40 => p.past_the_end(&mut r),
                 _ => done(both!(p, open(NODE))),
             }
             if p.proved.card().receive.receiver.failed | p.proved.card().transmit.fifo.failed && r.one_in(4) {
@@ -575,12 +633,13 @@ fn sensible_runs() {
     assert!(tally.reports > 0 && tally.statuses > 0 && tally.frames[0] > 0 && tally.frames[1] > 0 && tally.idle > 0 && tally.full > 0);
     assert!([0, 1, 3, 4, 5].iter().all(|&n| tally.codes[n] > 0));
     assert!(tally.irqs.iter().chain(&tally.disabled).all(|&n| n > 0));
+    assert!(tally.unread.iter().all(|&n| n > 0) && tally.elsewhere > 0);
 }
 
 #[test]
 fn hostile_runs() {
     let mut r = Random(number("SEAMTROUT_SEED", 0x0BAD_5EED));
-    let (wanted, mut tally) = (steps(600_000), Tally::default());
+    let (wanted, mut tally) = (steps(1_000_000), Tally::default());
     while tally.calls < wanted {
         let mut p = Pair::new(r.words(), tally);
         for turn in 0..2000 {
@@ -590,6 +649,7 @@ fn hostile_runs() {
                 2 => p.frame(&mut r),
                 3 => p.written(&mut r),
                 4 => p.interrupts(&mut r),
+                5 => p.past_the_end(&mut r),
                 _ => p.hostile(&mut r),
             }
             p.glance();
@@ -628,6 +688,39 @@ fn interrupt_lines() {
             let driven = both!(p, interrupt_line());
             let named = [3, 5, 7, 9, 10, 11, 12, 15].contains(&irq);
             assert_eq!(driven, Ok(if latched && enable == 1 && window != 0 && named { irq } else { 0 }));
+        }
+    }
+}
+
+/// The figures of request 3: a frame of 61 bytes, complete and not, read word by word to the failure, in every window.
+#[test]
+fn unread_bytes() {
+    for complete in [true, false] {
+        let mut p = Pair::new([0; 64], Tally::default());
+        assert_eq!(both!(p, rx_status()), Ok((0xFFFF, 0)));
+        p.activate();
+        both!(p, open(NODE));
+        assert_eq!(both!(p, rx_status()), Ok((0x8000, 0)));
+        both!(p, wire_start([0xFF; 8]));
+        for b in 8..61 {
+            both!(p, wire_byte(b));
+        }
+        if complete {
+            both!(p, wire_end(true, true));
+        }
+        // The words that can be read, and the count then: all 64 bytes, or those 60 that have come in whole words.
+        let (words, least, bits) = if complete { (32, -3, 0) } else { (30, 1, 0x8000) };
+        for read in 0..words + 2 {
+            let unread = (61 - 2 * read).max(least);
+            for window in 0..8 {
+                both!(p, write_word(0x0E, 1 << 11 | window));
+                assert_eq!(both!(p, rx_status()), Ok((bits | unread as u16 & 0x7FF, unread)));
+                p.glance();
+            }
+            both!(p, write_word(0x0E, 1 << 11 | 1));
+            let failed = both!(p, read_word(0x0E)).unwrap() & 2 != 0;
+            assert_eq!(failed, read > words);
+            both!(p, read_word(0x00));
         }
     }
 }
@@ -760,6 +853,7 @@ fn unsound_cards() {
         assert_eq!(c.id_write(99, 0), Err(1));
         assert_eq!(c.id_drives(99), Err(1));
         assert_eq!(c.interrupt_line(), Err(1));
+        assert_eq!(c.rx_status(), Err(1));
         assert_eq!(c.id_read(99, true), Err(1));
         assert_eq!(c.open(NODE), Err(1));
         assert_eq!(c.send(&[]), Err(1));

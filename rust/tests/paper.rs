@@ -136,6 +136,132 @@ fn sixty_one_bytes_count_below_zero() {
     assert_eq!(rx_status(&mut card), 0x07FD);
 }
 
+// RX Status with the unread bytes as a signed number (request 3).
+
+fn read_words(card: &mut Model, count: usize) {
+    for _ in 0..count {
+        card.read_word(0).unwrap();
+    }
+}
+
+#[test]
+fn sixty_one_bytes_unread() {
+    let mut card = opened();
+    receive(&mut card, 61, true, true);
+    assert_eq!(card.rx_status(), Ok((61, 61)));
+    read_words(&mut card, 30);
+    assert_eq!(card.rx_status(), Ok((1, 1)));
+    read_words(&mut card, 1);
+    assert_eq!(card.rx_status(), Ok((2047, -1)));
+    read_words(&mut card, 1);
+    assert_eq!(card.rx_status(), Ok((2045, -3)));
+    assert_eq!(status(&mut card), 0x2010);
+    assert_eq!(card.read_word(0), Ok(0)); // the 33rd word: the failure
+    assert_eq!(status(&mut card), 0x2012);
+    assert_eq!(card.rx_status(), Ok((2045, -3)));
+    command(&mut card, 5, 0);
+    assert_eq!(card.rx_status(), Ok((0x8000, 0)));
+}
+
+/// A word may be read while 2 bytes are left, pad included: the count ends at 0, -3, -2 or -1.
+#[test]
+fn unread_down_to_the_pad() {
+    for (length, least) in [(60, 0), (61, -3), (62, -2), (63, -1), (64, 0), (1513, -3), (1514, -2)] {
+        let mut card = opened();
+        receive(&mut card, length, true, true);
+        let mut unread = length as i16;
+        while unread >= least {
+            assert_eq!(card.rx_status(), Ok((unread as u16 & 0x7FF, unread)));
+            assert_eq!(status(&mut card), 0x2010, "{length} bytes, {unread} unread");
+            read_words(&mut card, 1);
+            unread -= 2;
+        }
+        assert_eq!(status(&mut card), 0x2012);
+        assert_eq!(card.rx_status(), Ok((least as u16 & 0x7FF, least)));
+    }
+}
+
+#[test]
+fn unread_of_no_frame() {
+    let mut card = Model::power_on(words(OWN_WORDS));
+    assert_eq!(card.rx_status(), Ok((0xFFFF, 0)));
+    card = activated(words(OWN_WORDS));
+    assert_eq!(card.rx_status(), Ok((0x8000, 0)));
+    card.open(OWN_WORDS).unwrap();
+    assert_eq!(card.rx_status(), Ok((0x8000, 0)));
+    read_words(&mut card, 1); // a failure, and nothing moves
+    assert_eq!(card.rx_status(), Ok((0x8000, 0)));
+    command(&mut card, 0, 0);
+    assert_eq!(card.rx_status(), Ok((0xFFFF, 0)));
+}
+
+/// Pad counts once the frame is complete, and not before.
+#[test]
+fn unread_of_a_frame_that_is_coming() {
+    let mut card = opened();
+    begin(&mut card, &frame(61));
+    assert_eq!(card.rx_status(), Ok((0x803D, 61)));
+    read_words(&mut card, 30);
+    assert_eq!(card.rx_status(), Ok((0x8001, 1)));
+    let mut failed = card.clone();
+    read_words(&mut failed, 1);
+    assert_eq!((status(&mut failed), failed.rx_status()), (0x2002, Ok((0x8001, 1))));
+    failed.wire_byte(7).unwrap(); // the wire is stored as before
+    assert_eq!(failed.rx_status(), Ok((0x8002, 2)));
+    card.wire_end(false, true).unwrap();
+    assert_eq!(card.rx_status(), Ok((0x6801, 1)));
+    read_words(&mut card, 2);
+    assert_eq!((status(&mut card), card.rx_status()), (0x2010, Ok((0x6FFD, -3))));
+}
+
+#[test]
+fn unread_up_to_1792() {
+    let mut card = opened();
+    begin(&mut card, &frame(1800));
+    assert_eq!(card.rx_status(), Ok((0x8700, 1792)));
+    card.wire_end(true, true).unwrap();
+    assert_eq!(card.rx_status(), Ok((0x4F00, 1792)));
+    read_words(&mut card, 896);
+    assert_eq!((status(&mut card), card.rx_status()), (0x2010, Ok((0x4800, 0))));
+}
+
+/// The answer is window 1's register in every window; it is of the oldest frame, and changes nothing.
+#[test]
+fn unread_in_every_window() {
+    let mut card = opened();
+    receive(&mut card, 61, true, true);
+    receive(&mut card, 100, false, true);
+    read_words(&mut card, 31);
+    for window in 0..8 {
+        command(&mut card, 1, window);
+        let before = card.clone();
+        assert_eq!(card.rx_status(), Ok((0x07FF, -1)));
+        assert_eq!(card, before);
+    }
+    command(&mut card, 8, 0);
+    assert_eq!(card.rx_status(), Ok((0x6864, 100)));
+    command(&mut card, 1, 1);
+    assert_eq!(rx_status(&mut card), 0x6864);
+}
+
+/// A good frame's count outside 60 to 1,514 is dropped, below 0 too; within, what is unread is handed up.
+#[test]
+fn the_count_is_judged_signed() {
+    for (length, words, unread) in
+        [(60, 0, 60), (61, 1, 59), (62, 1, 60), (62, 2, 58), (61, 31, -1), (62, 32, -2), (61, 32, -3), (1514, 0, 1514)]
+    {
+        let mut card = opened();
+        receive(&mut card, length, true, true);
+        read_words(&mut card, words);
+        assert_eq!(card.rx_status().unwrap().1, unread);
+        let left: Vec<u8> = frame(length).into_iter().skip(2 * words).collect();
+        let cost = 3 + left.len().div_ceil(2) as u32;
+        let answer = if unread >= 60 { (Service::Frame(left), cost) } else { (Service::Idle, 5) };
+        assert_eq!(serve(&mut card, 2000), answer, "{unread} unread");
+        assert_eq!(card.rx_status(), Ok((0x8000, 0)));
+    }
+}
+
 #[test]
 fn service_costs() {
     let mut card = opened();

@@ -9,12 +9,14 @@ use Rattle.card_rules.specs.declared.AfterCall.{AfterCall}
 use Rattle.card_rules.specs.declared.AfterRead.{AfterRead}
 use Rattle.card_rules.specs.declared.AfterSuccess.{AfterSuccess}
 use Rattle.card_rules.specs.declared.Read.{Read}
+use Rattle.card_rules.specs.declared.RxStatus.{RxStatus}
 use Rattle.card_rules.specs.Contracts as contract
 use Rattle.codes.specs.declared.cards.CardDone.{CardDone}
 use Rattle.codes.specs.declared.cards.CardLine.{CardLine}
 use Rattle.codes.specs.declared.cards.CardRead.{CardRead}
 use Rattle.codes.specs.declared.cards.CardTold.{CardTold}
-use Rattle.codes.specs.Codes.{codedDone, codedRead, codedTold, codedLine}
+use Rattle.codes.specs.declared.cards.CardRxStatus.{CardRxStatus}
+use Rattle.codes.specs.Codes.{codedDone, codedRead, codedTold, codedLine, codedRxStatus}
 
 -- Power-on, whatever the memory.
 abbrev pub PowersOn : List ℕ → Card → Type 0
@@ -62,3 +64,7 @@ module _ (c : Card) (ram dir : List ℕ) where
   -- The interrupt line: the card is not handed back, since it stays as it is.
   abbrev pub Drives : CardLine → Type 0
   Drives r = (x : Read) × ((r ≡ codedLine x) × contract.interrupt-line c ram dir x)
+
+  -- RX Status: the card stays as it is, too.
+  abbrev pub Shows : CardRxStatus → Type 0
+  Shows r = (x : RxStatus) × ((r ≡ codedRxStatus x) × contract.rx-status c ram dir x)

@@ -4,6 +4,7 @@ use card_rules::Card;
 use codes::CardDone;
 use codes::CardLine;
 use codes::CardRead;
+use codes::CardRxStatus;
 use codes::CardTold;
 use port_rules::IdState;
 
@@ -170,4 +171,17 @@ pub extern "C" fn seamtrout_card_interrupt_line(
 {
     let x = card::interrupt_line(ram, dir, c);
     codes::coded_line(x)
+}
+
+// RX Status, whatever window is selected, and the unread bytes.
+#[no_mangle]
+pub extern "C" fn seamtrout_card_rx_status(
+    ram: &[u8; 8192],
+    dir: &[u16; 1110],
+    c: Card,
+) -> CardRxStatus
+    ensures { λ r. ⌜ says.Shows c (now (ram .entry)) (now (dir .entry)) r ⌝ }
+{
+    let x = card::rx_status(ram, dir, c);
+    codes::coded_rx_status(x)
 }

@@ -3,7 +3,7 @@ ghost use mathlib.Core.Path.{_≡_};
 ghost use Prim.Native.Nat.{_+_, _*_, _≤_};
 ghost use lib.ListN.{length, take};
 ghost use Rattle.bench_rules.specs.Text.{Puts};
-ghost use Rattle.bench_rules.specs.Answers.{labelled, wordLine, byteLine, accessesText, statusLine, reportLine, bytesLine, frameLine, sevenAtMost, foundLine, addressText, addressesText, shortened};
+ghost use Rattle.bench_rules.specs.Answers.{labelled, wordLine, byteLine, signedText, rxStatusLine, accessesText, statusLine, reportLine, bytesLine, frameLine, sevenAtMost, foundLine, addressText, addressesText, shortened};
 
 // A line that is always the same.
 pub fn fixed(text: &mut [u8], s: &[u8]) -> usize
@@ -41,6 +41,30 @@ pub fn byte(text: &mut [u8], v: u16) -> usize
     let a = hex::put(text, 0, b"= ");
     let b = hex::put_byte(text, a, (v % 256) as u8);
     hex::put(text, b, b"\n")
+}
+
+// A number in decimal, with a minus sign below 0. It is negated in 32 bits: -32,768 has no counterpart in 16.
+fn signed(text: &mut [u8], at: usize, n: i16) -> usize
+    requires { ⌜ (length (now text) ≡ 4096) × (at ≤ 4000) ⌝ }
+    ensures { λ r. ⌜ Puts (signedText n) at (now (text .entry)) (now (text .exit)) r × (r ≤ at + 6) ⌝ }
+{
+    if n < 0 {
+        let a = hex::put(text, at, b"-");
+        return hex::put_decimal(text, a, (-(n as i32)) as u32);
+    }
+    hex::put_decimal(text, at, n as u32)
+}
+
+// RX Status, and the unread bytes.
+pub fn rx_status(text: &mut [u8], v: u16, n: i16) -> usize
+    requires { ⌜ length (now text) ≡ 4096 ⌝ }
+    ensures { λ r. ⌜ Puts (rxStatusLine v n) 0 (now (text .entry)) (now (text .exit)) r ⌝ }
+{
+    let a = hex::put(text, 0, b"rx ");
+    let b = hex::put_word(text, a, v);
+    let c = hex::put(text, b, b" unread ");
+    let d = signed(text, c, n);
+    hex::put(text, d, b"\n")
 }
 
 // The accesses used, at the end of a line. A count has at most five digits.

@@ -17,6 +17,7 @@ pub fn say(text: &mut [u8; 4096], reply: Reply, bytes: &[u8], addresses: [u64; 7
         Reply::Refused(n) => forms::numbered(text, b"refused ", n as u32),
         Reply::Word(v) => forms::word(text, v),
         Reply::Byte(v) => forms::byte(text, v),
+        Reply::RxStatus(v, n) => forms::rx_status(text, v, n),
         Reply::Bit(b) => forms::numbered(text, b"= ", b as u32),
         Reply::Wire => forms::wire(text, forms::part(bytes)),
         Reply::Found(m, used) => forms::found(text, m, used, addresses),

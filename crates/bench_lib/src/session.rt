@@ -48,6 +48,7 @@ fn act(
         Kind::End => wire_lines::end(ram, dir, text, b, asked.a, asked.b),
         Kind::Sent => wire_lines::sent(ram, dir, text, b),
         Kind::Collided => wire_lines::collided(ram, dir, text, b),
+        Kind::RxStatus => host_lines::rx_status(ram, dir, text, b),
         Kind::IdWrite => port_lines::write(ram, dir, text, b, asked.a, asked.b),
         Kind::IdRead => port_lines::read(ram, dir, text, b, asked.a),
         Kind::Search => port_lines::find(ram, dir, text, b, asked.a),

@@ -1,8 +1,9 @@
-// The host's accesses.
+// The host's accesses, and RX Status without one.
 use bench_rules::Reply;
 use bench_state::Bench;
 use bench_state::Stepped;
 use card_rules::Read;
+use card_rules::RxStatus;
 
 fn word_reply(a: Read) -> Reply {
     match a {
@@ -15,6 +16,13 @@ fn byte_reply(a: Read) -> Reply {
     match a {
         Read::Value(v) => Reply::Byte(v),
         Read::Refused(why) => bench_state::refused(why),
+    }
+}
+
+fn rx_reply(a: RxStatus) -> Reply {
+    match a {
+        RxStatus::Shows(word, unread) => Reply::RxStatus(word, unread),
+        RxStatus::Refused(why) => bench_state::refused(why),
     }
 }
 
@@ -82,4 +90,16 @@ pub fn write_byte(
         bench_state::with_card(b, after),
         bench_state::done_reply(answer),
     )
+}
+
+// RX Status and the unread bytes: the card stays as it is.
+pub fn rx_status(
+    ram: &mut [u8; 8192],
+    dir: &mut [u16; 1110],
+    text: &mut [u8; 4096],
+    b: Bench,
+) -> Stepped {
+    let c = b.card;
+    let answer = card::rx_status(ram, dir, c);
+    bench_state::plain(text, b, rx_reply(answer))
 }

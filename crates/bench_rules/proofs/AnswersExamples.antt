@@ -1,9 +1,10 @@
 -- Lines of the bench, computed. Assumes nothing.
 use mathlib.Core.Path.{_≡_, refl}
 use mathlib.Core.List.{[], _∷_}
+use lib.IntN.{pos, negsuc}
 use Rattle.bench_rules.specs.Text.{digitOf, placesText}
 use Rattle.bench_rules.specs.declared.Reply.the-variants as reply
-use Rattle.bench_rules.specs.Answers.{addressesText, lineOf}
+use Rattle.bench_rules.specs.Answers.{signedText, addressesText, lineOf}
 
 -- `found 1 accesses 875 0020AFC412E5`: one card, 258 + 309 + 308 accesses
 one-found : lineOf (reply.Found 1 875) [] (0x0020AFC412E5 ∷ [])
@@ -12,3 +13,27 @@ one-found : lineOf (reply.Found 1 875) [] (0x0020AFC412E5 ∷ [])
     ∷ 0x30 ∷ 0x30 ∷ 0x32 ∷ 0x30 ∷ 0x41 ∷ 0x46 ∷ 0x43 ∷ 0x34 ∷ 0x31 ∷ 0x32 ∷ 0x45 ∷ 0x35 ∷ 0x0A ∷ []
 unfolding lineOf addressesText placesText digitOf
 one-found = refl
+
+-- `rx 8000 unread 0`
+nothing-unread : lineOf (reply.RxStatus 0x8000 (pos 0)) [] []
+    ≡ 0x72 ∷ 0x78 ∷ 0x20 ∷ 0x38 ∷ 0x30 ∷ 0x30 ∷ 0x30 ∷ 0x20 ∷ 0x75 ∷ 0x6E ∷ 0x72 ∷ 0x65 ∷ 0x61 ∷ 0x64 ∷ 0x20 ∷ 0x30 ∷ 0x0A ∷ []
+unfolding lineOf signedText placesText digitOf
+nothing-unread = refl
+
+-- `rx 07FF unread -1`
+one-past : lineOf (reply.RxStatus 0x07FF (negsuc 0)) [] []
+    ≡ 0x72 ∷ 0x78 ∷ 0x20 ∷ 0x30 ∷ 0x37 ∷ 0x46 ∷ 0x46 ∷ 0x20 ∷ 0x75 ∷ 0x6E ∷ 0x72 ∷ 0x65 ∷ 0x61 ∷ 0x64 ∷ 0x20 ∷ 0x2D ∷ 0x31 ∷ 0x0A ∷ []
+unfolding lineOf signedText placesText digitOf
+one-past = refl
+
+-- `rx 07FD unread -3`
+three-past : lineOf (reply.RxStatus 0x07FD (negsuc 2)) [] []
+    ≡ 0x72 ∷ 0x78 ∷ 0x20 ∷ 0x30 ∷ 0x37 ∷ 0x46 ∷ 0x44 ∷ 0x20 ∷ 0x75 ∷ 0x6E ∷ 0x72 ∷ 0x65 ∷ 0x61 ∷ 0x64 ∷ 0x20 ∷ 0x2D ∷ 0x33 ∷ 0x0A ∷ []
+unfolding lineOf signedText placesText digitOf
+three-past = refl
+
+-- `rx 0700 unread 1792`
+longest-unread : lineOf (reply.RxStatus 0x0700 (pos 1792)) [] []
+    ≡ 0x72 ∷ 0x78 ∷ 0x20 ∷ 0x30 ∷ 0x37 ∷ 0x30 ∷ 0x30 ∷ 0x20 ∷ 0x75 ∷ 0x6E ∷ 0x72 ∷ 0x65 ∷ 0x61 ∷ 0x64 ∷ 0x20 ∷ 0x31 ∷ 0x37 ∷ 0x39 ∷ 0x32 ∷ 0x0A ∷ []
+unfolding lineOf signedText placesText digitOf
+longest-unread = refl

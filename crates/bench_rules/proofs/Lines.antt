@@ -182,6 +182,7 @@ numbers-short kind.Bytes count one two three = unknown-short
 numbers-short kind.End count one two three = flag-short count one
 numbers-short kind.Sent count one two three = plain-short kind.Sent count
 numbers-short kind.Collided count one two three = plain-short kind.Collided count
+numbers-short kind.RxStatus count one two three = plain-short kind.RxStatus count
 numbers-short kind.IdWrite count one two three = pair-short kind.IdWrite 255 count one two
 numbers-short kind.IdRead count one two three = number-short kind.IdRead 16 count one
 numbers-short kind.Search count one two three = number-short kind.Search 16 count one
@@ -192,10 +193,10 @@ numbers-short kind.Service count one two three = number-short kind.Service 10 co
 
 -- The tags of the kinds that have no byte string, and of those that have no numbers.
 abbrev numeric : List ℕ
-numeric = 0 ∷ 1 ∷ 4 ∷ 5 ∷ 6 ∷ 7 ∷ 10 ∷ 11 ∷ 12 ∷ 13 ∷ 14 ∷ 15 ∷ 16 ∷ 17 ∷ 19 ∷ []
+numeric = 0 ∷ 1 ∷ 4 ∷ 5 ∷ 6 ∷ 7 ∷ 10 ∷ 11 ∷ 12 ∷ 13 ∷ 14 ∷ 15 ∷ 16 ∷ 17 ∷ 18 ∷ 20 ∷ []
 
 abbrev others : List ℕ
-others = 0 ∷ 1 ∷ 2 ∷ 3 ∷ 8 ∷ 9 ∷ 18 ∷ []
+others = 0 ∷ 1 ∷ 2 ∷ 3 ∷ 8 ∷ 9 ∷ 19 ∷ []
 
 operands-rest : (k : Kind) (count room : ℕ) (one two three : List ℕ) → OneOf numeric (tagOf the-type k) → numbersLine k count one two three ≡ operandLine k count room one two three
 unfolding operandLine
@@ -212,12 +213,13 @@ operands-rest kind.Bytes count room one two three h = absurd (miss numeric 9 tt 
 operands-rest kind.End count room one two three h = refl
 operands-rest kind.Sent count room one two three h = refl
 operands-rest kind.Collided count room one two three h = refl
+operands-rest kind.RxStatus count room one two three h = refl
 operands-rest kind.IdWrite count room one two three h = refl
 operands-rest kind.IdRead count room one two three h = refl
 operands-rest kind.Search count room one two three h = refl
 operands-rest kind.Activate count room one two three h = refl
 operands-rest kind.Open count room one two three h = refl
-operands-rest kind.Send count room one two three h = absurd (miss numeric 18 tt h)
+operands-rest kind.Send count room one two three h = absurd (miss numeric 19 tt h)
 operands-rest kind.Service count room one two three h = refl
 
 pub numbers-rest : (k : Kind) (count : ℕ) (one two three : List ℕ) → OneOf others (tagOf the-type k) → unknownLine ≡ numbersLine k count one two three
@@ -235,13 +237,14 @@ numbers-rest kind.Bytes count one two three h = refl
 numbers-rest kind.End count one two three h = absurd (miss others 10 tt h)
 numbers-rest kind.Sent count one two three h = absurd (miss others 11 tt h)
 numbers-rest kind.Collided count one two three h = absurd (miss others 12 tt h)
-numbers-rest kind.IdWrite count one two three h = absurd (miss others 13 tt h)
-numbers-rest kind.IdRead count one two three h = absurd (miss others 14 tt h)
-numbers-rest kind.Search count one two three h = absurd (miss others 15 tt h)
-numbers-rest kind.Activate count one two three h = absurd (miss others 16 tt h)
-numbers-rest kind.Open count one two three h = absurd (miss others 17 tt h)
+numbers-rest kind.RxStatus count one two three h = absurd (miss others 13 tt h)
+numbers-rest kind.IdWrite count one two three h = absurd (miss others 14 tt h)
+numbers-rest kind.IdRead count one two three h = absurd (miss others 15 tt h)
+numbers-rest kind.Search count one two three h = absurd (miss others 16 tt h)
+numbers-rest kind.Activate count one two three h = absurd (miss others 17 tt h)
+numbers-rest kind.Open count one two three h = absurd (miss others 18 tt h)
 numbers-rest kind.Send count one two three h = refl
-numbers-rest kind.Service count one two three h = absurd (miss others 19 tt h)
+numbers-rest kind.Service count one two three h = absurd (miss others 20 tt h)
 
 pub numbers-line : {r : Line} (k : Kind) (count : ℕ) (one two three bytes : List ℕ) → OneOf numeric (tagOf the-type k) → r ≡ numbersLine k count one two three → Spells (operandLine k count (length bytes) one two three) one (length bytes) r bytes
 numbers-line {r} k count one two three bytes h e =

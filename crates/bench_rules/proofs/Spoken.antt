@@ -1,14 +1,19 @@
--- Laws of lines: a row of addresses, and a line that stands at the front of a text. Assumes nothing.
+-- Laws of lines: a row of addresses, a number with its sign, and a line that stands at the front of a text. Assumes nothing.
 use Prim.Native.Nat.{ℕ, zero, suc, _+_, _*_, _≤_, _<_, min}
-use mathlib.Core.Path.{_≡_, refl, ap, sym, _∙_}
+use mathlib.Core.Path.{_≡_, refl, ap, sym, subst, _∙_}
+use mathlib.Core.Bool.{true, false}
 use mathlib.Core.List.{List, [], _∷_, _++_, append-assoc, append-nil}
 use native.Mathlib.Omega.{arith}
 use native.Mathlib.Numerals.{add-one}
+use borrow.Author.Tests.{ltb-true}
+use lib.Dec.{T}
+use lib.IntN.{ℤ, pos, negsuc, natAbs, _-ℤ_, +ℤ-idl}
+use lib.Signed.{ltZ}
 use lib.ListN.{length, take, getD, length-append, length-take}
 use lib.Seq.{take-suc}
-use Rattle.bench_rules.specs.Text.{Puts}
+use Rattle.bench_rules.specs.Text.{decimalText, Puts}
 use Rattle.bench_rules.proofs.Placed as law
-use Rattle.bench_rules.specs.Answers.{addressText, addressesText, Says}
+use Rattle.bench_rules.specs.Answers.{signedText, addressText, addressesText, Says}
 
 addresses-snoc : (s : List ℕ) (a : ℕ) → addressesText (s ++ (a ∷ [])) ≡ addressesText s ++ addressText a
 unfolding addressesText
@@ -24,6 +29,17 @@ more-addresses s i at place r p q h =
 pub no-address : (s : List ℕ) (at : ℕ) (t : List ℕ) → Puts (addressesText (take 0 s)) at t t at
 unfolding addressesText
 no-address s at t = law.none at t
+
+-- Below 0 the negated number is how far it is from 0, and the text is a minus sign and that; from 0 on the number is, and the text has no sign.
+pub below-zero : (n : ℤ) → ltZ n (pos 0) ≡ true → (pos 0 -ℤ n ≡ pos (natAbs n)) × ((0x2D ∷ []) ++ decimalText (natAbs n) ≡ signedText n)
+unfolding signedText
+below-zero (pos n) e = absurd (omega (arith, ltb-true n 0 e))
+below-zero (negsuc n) e = (+ℤ-idl (pos (suc n)), refl)
+
+pub from-zero : (n : ℤ) → ltZ n (pos 0) ≡ false → (n ≡ pos (natAbs n)) × (decimalText (natAbs n) ≡ signedText n)
+unfolding signedText
+from-zero (pos n) e = (refl, refl)
+from-zero (negsuc n) e = absurd (subst T e tt)
 
 -- What is put at the front is said.
 pub said : {line t t′ : List ℕ} {r : ℕ} → Puts line 0 t t′ r → Says line r t′

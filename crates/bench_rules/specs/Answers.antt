@@ -4,6 +4,7 @@ use mathlib.Core.Path.{_≡_}
 use mathlib.Core.Bool.{cond}
 use mathlib.Core.List.{List, [], _∷_, _++_}
 use lib.ListN.{length, take}
+use lib.IntN.{ℤ, pos, negsuc}
 use lib.Dec.{ltb}
 use Rattle.bench_rules.specs.Text.{byteText, wordText, bytesText, decimalText}
 use Rattle.bench_rules.specs.declared.Reply.{Reply}
@@ -33,6 +34,17 @@ wordLine v = equals ++ wordText v ++ newline
 
 abbrev pub byteLine : ℕ → List ℕ
 byteLine v = equals ++ byteText (v % 256) ++ newline
+
+-- A number in decimal, with a minus sign below 0: `negsuc n` is -(n + 1).
+unfoldable pub signedText : ℤ → List ℕ
+signedText (pos n) = decimalText n
+signedText (negsuc n) = (0x2D ∷ []) ++ decimalText (suc n)
+
+-- rx XXXX unread N
+abbrev pub rxStatusLine : ℕ → ℤ → List ℕ
+rxStatusLine v n =
+    (0x72 ∷ 0x78 ∷ 0x20 ∷ []) ++ wordText v
+    ++ (0x20 ∷ 0x75 ∷ 0x6E ∷ 0x72 ∷ 0x65 ∷ 0x61 ∷ 0x64 ∷ 0x20 ∷ []) ++ signedText n ++ newline
 
 -- accesses N, at the end of a line
 abbrev pub accessesText : ℕ → List ℕ
@@ -104,6 +116,7 @@ lineOf reply.Ok bytes found = okLine
 lineOf (reply.Refused n) bytes found = labelled refusedLabel n
 lineOf (reply.Word v) bytes found = wordLine v
 lineOf (reply.Byte v) bytes found = byteLine v
+lineOf (reply.RxStatus v n) bytes found = rxStatusLine v n
 lineOf (reply.Bit b) bytes found = labelled equals b
 lineOf reply.Wire bytes found = bytesLine (shortened bytes)
 lineOf (reply.Found m used) bytes found = foundLine (sevenAtMost m) used found

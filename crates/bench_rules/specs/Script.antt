@@ -7,7 +7,7 @@ use lib.ListN.{length, take, drop, getD}
 use lib.Dec.{ltb, leb, eqb}
 use Rattle.bench_rules.specs.Text.{none, numberOf, isPairs, bytesOf}
 use Rattle.bench_rules.specs.declared.Kind.{Kind}
-use Rattle.bench_rules.specs.declared.Kind.the-variants.{Nothing, Unknown, Power, Join, ReadWord, ReadByte, WriteWord, WriteByte, Start, Bytes, End, Sent, Collided, IdWrite, IdRead, Search, Activate, Open, Send, Service}
+use Rattle.bench_rules.specs.declared.Kind.the-variants.{Nothing, Unknown, Power, Join, ReadWord, ReadByte, WriteWord, WriteByte, Start, Bytes, End, Sent, Collided, RxStatus, IdWrite, IdRead, Search, Activate, Open, Send, Service}
 use Rattle.bench_rules.specs.declared.Line.{Line}
 
 -- ---- words
@@ -53,7 +53,7 @@ keyOf s = cond (eqb (getD s 0 0) 0) 0 (keyOn 0 s)
 
 unfoldable pub kindOf : ℕ → Kind
 kindOf key =
-    -- power, join, rw, rb, ww, wb, start, bytes, end, sent, collided, idw, idr, search, activate, open, send, service
+    -- power, join, rw, rb, ww, wb, start, bytes, end, sent, collided, rx, idw, idr, search, activate, open, send, service
     cond (eqb key 0x706F776572) Power
     (cond (eqb key 0x6A6F696E) Join
     (cond (eqb key 0x7277) ReadWord
@@ -65,6 +65,7 @@ kindOf key =
     (cond (eqb key 0x656E64) End
     (cond (eqb key 0x73656E74) Sent
     (cond (eqb key 0x636F6C6C69646564) Collided
+    (cond (eqb key 0x7278) RxStatus
     (cond (eqb key 0x696477) IdWrite
     (cond (eqb key 0x696472) IdRead
     (cond (eqb key 0x736561726368) Search
@@ -72,7 +73,7 @@ kindOf key =
     (cond (eqb key 0x6F70656E) Open
     (cond (eqb key 0x73656E64) Send
     (cond (eqb key 0x73657276696365) Service
-    Unknown)))))))))))))))))
+    Unknown))))))))))))))))))
 
 -- ---- operands
 
@@ -164,6 +165,7 @@ numbersLine Bytes count one two three = unknownLine
 numbersLine End count one two three = flagLine count one
 numbersLine Sent count one two three = plainLine Sent count
 numbersLine Collided count one two three = plainLine Collided count
+numbersLine RxStatus count one two three = plainLine RxStatus count
 numbersLine IdWrite count one two three = pairLine IdWrite 255 count one two
 numbersLine IdRead count one two three = numberLine IdRead 16 count one
 numbersLine Search count one two three = numberLine Search 16 count one
@@ -187,6 +189,7 @@ operandLine Bytes count room one two three = byteLine Bytes 0 count room one
 operandLine End count room one two three = numbersLine End count one two three
 operandLine Sent count room one two three = numbersLine Sent count one two three
 operandLine Collided count room one two three = numbersLine Collided count one two three
+operandLine RxStatus count room one two three = numbersLine RxStatus count one two three
 operandLine IdWrite count room one two three = numbersLine IdWrite count one two three
 operandLine IdRead count room one two three = numbersLine IdRead count one two three
 operandLine Search count room one two three = numbersLine Search count one two three

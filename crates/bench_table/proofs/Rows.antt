@@ -4,6 +4,7 @@ use mathlib.Core.Bool.{Bool, true, false, _||_}
 use mathlib.Core.List.{List, [], _∷_, _++_, map}
 use Prim.Native.Nat.{ℕ, _+_, _-_, _≤_}
 use native.Mathlib.Omega.{arith}
+use lib.IntN.{negsuc}
 use lib.ListN.{length, replicate}
 use lib.Dec.{lit≤}
 use Rattle.port_rules.specs.Sequence.{idByte, idNext}
@@ -16,7 +17,8 @@ use Rattle.receive_rules.specs.Frame.{Frame, isComing, overran, room}
 use Rattle.receive_rules.specs.Wire as wire
 use Rattle.receive_rules.specs.Wire.{passes, begins, marked, ending, ends, fresh}
 use Rattle.receive_rules.specs.Reading as reading
-use Rattle.receive_rules.specs.Reading.{marks, unread, complete, readable, oldest, dataWord, afterRead, withoutOldest}
+use Rattle.receive_rules.specs.Count.{unread, encoded}
+use Rattle.receive_rules.specs.Reading.{marks, complete, readable, oldest, dataWord, afterRead, withoutOldest}
 use Rattle.receive_rules.specs.Sound.{inOrder, earlySettled}
 use Rattle.receive_rules.specs.Early.{earlyFlag, toldFlag}
 use Rattle.store.specs.Store.{atNewest}
@@ -28,6 +30,7 @@ use Rattle.card_rules.specs.declared.Select.{Select}
 use Rattle.card_rules.specs.Room.{txSize, rxSize}
 use Rattle.card_rules.specs.Status.{statusOf, interrupting}
 use Rattle.card_rules.specs.Settle.{settle}
+use Rattle.card_rules.specs.RxStatus.{rxUnread}
 use Rattle.card_rules.specs.Sound.{selectSound}
 use Rattle.card_rules.specs.Power.{powerOn}
 use Rattle.card_rules.specs.Command.{acknowledge, act, command, commanded}
@@ -53,7 +56,7 @@ use Rattle.sends_carried.proofs.Rooms.{rows}
 use Rattle.frames_carried.specs.Bytes.{octets}
 use Rattle.frames_carried.specs.Carried.{Waiting}
 use Rattle.frames_carried.proofs.One.{one-handed-up}
-use Rattle.bench_table.specs.Table.{opened, coming, ended, rxStatus, afterWords, areas, papers, service, The-bench-table}
+use Rattle.bench_table.specs.Table.{opened, coming, ended, rxStatus, unreadBytes, afterWords, areas, papers, service, The-bench-table}
 use Rattle.bench_table.proofs.Wire.{Same, brought, same-brought, stores-brought}
 
 -- ---- short frames, by computing
@@ -64,18 +67,20 @@ record Short : Type 0 where
   bad-check : rxStatus (ended 60 false) ≡ 0x683C
   after-31 : rxStatus (afterWords 31 (ended 61 true)) ≡ 0x07FF
   after-32 : rxStatus (afterWords 32 (ended 61 true)) ≡ 0x07FD
+  unread-31 : unreadBytes (afterWords 31 (ended 61 true)) ≡ negsuc 0
+  unread-32 : unreadBytes (afterWords 32 (ended 61 true)) ≡ negsuc 2
   serves-60 : service (ended 60 true) ≡ frame 60 33 ∷ []
   serves-damaged : service (ended 60 false) ≡ idle 5 ∷ []
 
 short : Short
-unfolding opened active papers opens serves next said after openCall serviceCall run talk.after openTalk lookTalk idleTalk fetchTalk readWords inLook inFrame access effect commanded command act acknowledge settle powerOn writeWord writeByte write write1 write2 coversLow coversHigh interrupting earlyFlag toldFlag due enable queue.free queue.room txSize rxSize some complete wordAt window1 afterWord statusOf card.wireStart card.wireByte card.wireEnd wire.wireStart wire.wireByte wire.wireEnd begins passes marked ending isComing overran room atNewest reading.rxStatus marks readable oldest dataWord afterRead reading.discard withoutOldest
-short = record { good-60 = refl; short-59 = refl; bad-check = refl; after-31 = refl; after-32 = refl; serves-60 = refl; serves-damaged = refl }
+unfolding opened active papers opens serves next said after openCall serviceCall run talk.after openTalk lookTalk idleTalk fetchTalk readWords inLook inFrame access effect commanded command act acknowledge settle powerOn writeWord writeByte write write1 write2 coversLow coversHigh interrupting earlyFlag toldFlag due enable queue.free queue.room txSize rxSize some complete wordAt window1 afterWord statusOf card.wireStart card.wireByte card.wireEnd wire.wireStart wire.wireByte wire.wireEnd begins passes marked ending isComing overran room atNewest rxUnread reading.rxStatus marks readable oldest dataWord afterRead reading.discard withoutOldest
+short = record { good-60 = refl; short-59 = refl; bad-check = refl; after-31 = refl; after-32 = refl; unread-31 = refl; unread-32 = refl; serves-60 = refl; serves-damaged = refl }
 
 -- ---- long frames
 
 -- what RX Status shows of the only frame, unread
 status-of : (x : Bench) (f : Frame) → x .adapter .id .active ≡ true → x .adapter .select .window ≡ 1 → x .adapter .rx .receiver .read ≡ 0 → x .adapter .rx .frames ≡ f ∷ [] →
-    rxStatus x ≡ marks (f .state) + unread (length (f .bytes)) 0
+    rxStatus x ≡ marks (f .state) + encoded (unread (length (f .bytes)) 0)
 unfolding effect wordAt window1 reading.rxStatus
 status-of x f y w r e = ap (λ (t : Step). t .value) (awake (ReadWord 8) (x .adapter) y) ∙ rw (w, r, e)
 
@@ -139,7 +144,7 @@ module _ (bs : List ℕ) (check : Bool) (few : 8 + length bs ≤ 1792) where
   in-window : came .adapter .select .window ≡ 1
   in-window = ap (λ (s : Select). s .window) (kept .select) ∙ ready .window
 
-  shown : rxStatus came ≡ marks (ends check true (fresh (replicate 8 0 ++ bs)) .state) + unread (length (replicate 8 0 ++ bs)) 0
+  shown : rxStatus came ≡ marks (ends check true (fresh (replicate 8 0 ++ bs)) .state) + encoded (unread (length (replicate 8 0 ++ bs)) 0)
   shown = status-of came (ends check true (fresh (replicate 8 0 ++ bs))) on-card in-window (kept .read ∙ ready .read) holds
 
 good-1514 : rxStatus (ended 1514 true) ≡ 0x05EA
@@ -193,6 +198,8 @@ table =
       bad-check = short .bad-check;
       after-31 = short .after-31;
       after-32 = short .after-32;
+      unread-31 = short .unread-31;
+      unread-32 = short .unread-32;
       serves-60 = short .serves-60;
       serves-1514 = serves-1514;
       serves-damaged = short .serves-damaged;

@@ -1,13 +1,15 @@
--- The bench table of document 01: every figure, in its order. Assumes nothing.
+-- The bench table of document 01: every figure, in its order, with request 3's. Assumes nothing.
 use mathlib.Core.Path.{_≡_}
 use mathlib.Core.Bool.{Bool, true, false}
 use mathlib.Core.List.{List, [], _∷_, _++_, map}
 use Prim.Native.Nat.{ℕ, _-_}
+use lib.IntN.{ℤ, negsuc}
 use lib.ListN.{length, replicate}
 use Rattle.port_rules.specs.Sequence.{idByte}
 use Rattle.port_rules.specs.Search.{idBytes}
 use Rattle.found.specs.Theorems.{The-search-costs}
 use Rattle.card_rules.specs.Access.{ReadWord, access}
+use Rattle.card_rules.specs.RxStatus.{rxUnread}
 use Rattle.driver_rules.specs.Talk.{afterReads}
 use Rattle.driver_rules.specs.Paper.{Paper, frame, idle}
 use Rattle.runs.specs.Run.{Bench, Areas, Event, Start, Byte, End, Service, Said, refused, told, answered, served, withAdapter, said, after}
@@ -27,6 +29,10 @@ ended n check = after (coming n ++ (End check true ∷ [])) opened
 -- what RX Status shows
 abbrev pub rxStatus : Bench → ℕ
 rxStatus b = (access (ReadWord 0x08) (b .adapter)) .value
+
+-- the unread bytes that `rx_status` tells
+abbrev pub unreadBytes : Bench → ℤ
+unreadBytes b = rxUnread (b .adapter)
 
 -- after the host read w words of it
 abbrev pub afterWords : ℕ → Bench → Bench
@@ -62,6 +68,9 @@ pub record The-bench-table : Type 0 where
   -- 61 bytes after 31 words show 07FFh, after 32 show 07FDh
   pub after-31 : rxStatus (afterWords 31 (ended 61 true)) ≡ 0x07FF
   pub after-32 : rxStatus (afterWords 32 (ended 61 true)) ≡ 0x07FD
+  -- .. which are -1 and -3 unread bytes
+  pub unread-31 : unreadBytes (afterWords 31 (ended 61 true)) ≡ negsuc 0
+  pub unread-32 : unreadBytes (afterWords 32 (ended 61 true)) ≡ negsuc 2
   -- service costs 33 for 60 bytes, 760 for 1,514, 5 for one damaged frame and idle
   pub serves-60 : service (ended 60 true) ≡ frame 60 33 ∷ []
   pub serves-1514 : service (ended 1514 true) ≡ frame 1514 760 ∷ []

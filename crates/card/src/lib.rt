@@ -6,6 +6,7 @@ use card_rules::AfterSuccess;
 use card_rules::Card;
 use card_rules::Done;
 use card_rules::Read;
+use card_rules::RxStatus;
 use card_rules::Told;
 use port_rules::IdState;
 use refusal::Refusal;
@@ -276,4 +277,19 @@ pub fn interrupt_line(ram: &[u8; 8192], dir: &[u16; 1110], c: Card) -> Read
     }
     let line = regs::interrupt_line(c);
     Read::Value(line)
+}
+
+// RX Status, whatever window is selected, and the unread bytes as a signed number: -3 to 1,792. An inactive card reads all ones, and 0 is told.
+pub fn rx_status(ram: &[u8; 8192], dir: &[u16; 1110], c: Card) -> RxStatus
+    ensures { λ r. ⌜ contract.rx-status c (now (ram .entry)) (now (dir .entry)) r ⌝ }
+{
+    if !regs::is_sound(ram, dir, c) {
+        return RxStatus::Refused(Refusal::StateUnsound);
+    }
+    if !c.id.active {
+        return RxStatus::Shows(65535, 0);
+    }
+    let word = regs::rx_status(ram, dir, c);
+    let unread = regs::unread(ram, dir, c);
+    RxStatus::Shows(word, unread)
 }

@@ -37,6 +37,8 @@ pub mod SeatingExamples
 pub mod StepsExamples
 pub mod StepKeeps
 pub mod StepEnds
+-- RX Status without an access
+mod RxStatusExamples
 -- the tests of the calls
 mod CardTestsExamples
 -- the public calls

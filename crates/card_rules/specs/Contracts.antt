@@ -17,7 +17,9 @@ use Rattle.card_rules.specs.declared.AfterRead.{AfterRead}
 use Rattle.card_rules.specs.declared.AfterCall.{AfterCall}
 use Rattle.card_rules.specs.declared.AfterSuccess.{AfterSuccess}
 use Rattle.card_rules.specs.declared.Read.{Read}
+use Rattle.card_rules.specs.declared.RxStatus.{RxStatus}
 use Rattle.card_rules.specs.Line.{interruptLine}
+use Rattle.card_rules.specs.RxStatus.{rxTold}
 use Rattle.card_rules.specs.Calls.{value, done, replying, readReply, doneReply, toldReply, judged, isWord, isByte, onWire, offWire, Call, Area}
 
 abbrev pub power-on : List ℕ → Card → Type 0
@@ -82,3 +84,7 @@ module _ (c : Card) (ram dir : List ℕ) where
   -- The interrupt line that the card drives; it is handed back as it came, since nothing of it is lent to be changed.
   abbrev pub interrupt-line : Read → Type 0
   interrupt-line r = readReply r ≡ replying (judged (soundCard c ram dir) true 1) (value (interruptLine (view c ram dir)))
+
+  -- RX Status and the unread bytes; nothing of the card is lent to be changed.
+  abbrev pub rx-status : RxStatus → Type 0
+  rx-status r = r ≡ rxTold (soundCard c ram dir) (view c ram dir)

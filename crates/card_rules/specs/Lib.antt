@@ -26,6 +26,8 @@ pub mod Seat
 pub mod Access
 pub mod Event
 pub mod Gives
+-- RX Status without an access
+pub mod RxStatus
 -- the tests of the calls
 pub mod Tests
 -- the public calls

@@ -92,6 +92,12 @@ pub enum Read {
     Refused(Refusal),
 }
 
+// What `rx_status` answers: the word, and the unread bytes.
+pub enum RxStatus {
+    Shows(u16, i16),
+    Refused(Refusal),
+}
+
 pub struct AfterRead {
     pub card: Card,
     pub answer: Read,

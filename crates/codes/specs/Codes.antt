@@ -1,6 +1,7 @@
 -- Every answer in numbers: a code is 0 for done, else the paper's number of the refusal; a value that a refused call does not have is 0.
 -- Assumes nothing.
 use Prim.Native.Nat.{ℕ}
+use lib.IntN.{ℤ, pos}
 use Rattle.refusal.specs.Number.{numberOf}
 use Rattle.image_rules.specs.declared.Checked.{Checked}
 use Rattle.image_rules.specs.declared.Checked.the-variants as checked
@@ -8,6 +9,8 @@ use Rattle.card_rules.specs.declared.Done.{Done}
 use Rattle.card_rules.specs.declared.Done.the-variants as finished
 use Rattle.card_rules.specs.declared.Read.{Read}
 use Rattle.card_rules.specs.declared.Read.the-variants as read
+use Rattle.card_rules.specs.declared.RxStatus.{RxStatus}
+use Rattle.card_rules.specs.declared.RxStatus.the-variants as rx
 use Rattle.card_rules.specs.declared.Told.{Told}
 use Rattle.card_rules.specs.declared.Told.the-variants as told
 use Rattle.card_rules.specs.declared.AfterCall.{AfterCall}
@@ -31,6 +34,7 @@ use Rattle.codes.specs.declared.cards.CardDone.{CardDone}
 use Rattle.codes.specs.declared.cards.CardLine.{CardLine}
 use Rattle.codes.specs.declared.cards.CardRead.{CardRead}
 use Rattle.codes.specs.declared.cards.CardTold.{CardTold}
+use Rattle.codes.specs.declared.cards.CardRxStatus.{CardRxStatus}
 use Rattle.codes.specs.declared.ports.BusFound.{BusFound}
 use Rattle.codes.specs.declared.ports.BusDone.{BusDone}
 use Rattle.codes.specs.declared.drivers.DriverDone.{DriverDone}
@@ -73,6 +77,21 @@ codedTold x = record { card = x .card; n = toldCount (x .answer); code = toldCod
 
 abbrev pub codedLine : Read → CardLine
 codedLine x = record { line = readValue x; code = readCode x }
+
+abbrev pub rxCode : RxStatus → ℕ
+rxCode (rx.Shows word unread) = 0
+rxCode (rx.Refused why) = numberOf why
+
+abbrev pub rxWordOf : RxStatus → ℕ
+rxWordOf (rx.Shows word unread) = word
+rxWordOf (rx.Refused why) = 0
+
+abbrev pub rxUnreadOf : RxStatus → ℤ
+rxUnreadOf (rx.Shows word unread) = unread
+rxUnreadOf (rx.Refused why) = pos 0
+
+abbrev pub codedRxStatus : RxStatus → CardRxStatus
+codedRxStatus x = record { word = rxWordOf x; unread = rxUnreadOf x; code = rxCode x }
 
 -- ---- several cards on one ID port
 

@@ -1,12 +1,13 @@
 // The card's answers in numbers.
 ghost use mathlib.Core.Path.{_≡_};
-ghost use Rattle.codes.specs.Codes.{doneCode, readCode, readValue, toldCode, toldCount, codedDone, codedRead, codedTold, codedLine};
+ghost use Rattle.codes.specs.Codes.{doneCode, readCode, readValue, toldCode, toldCount, codedDone, codedRead, codedTold, codedLine, rxCode, rxWordOf, rxUnreadOf, codedRxStatus};
 use card_rules::AfterCall;
 use card_rules::AfterRead;
 use card_rules::AfterSuccess;
 use card_rules::Card;
 use card_rules::Done;
 use card_rules::Read;
+use card_rules::RxStatus;
 use card_rules::Told;
 
 // The card after a call, and the code.
@@ -36,6 +37,14 @@ pub struct CardTold {
 #[repr(C)]
 pub struct CardLine {
     pub line: u16,
+    pub code: u8,
+}
+
+// RX Status, the unread bytes and the code.
+#[repr(C)]
+pub struct CardRxStatus {
+    pub word: u16,
+    pub unread: i16,
     pub code: u8,
 }
 
@@ -131,6 +140,46 @@ pub fn coded_line(x: Read) -> CardLine
     let code = read_code(x);
     CardLine {
         line: line,
+        code: code,
+    }
+}
+
+fn rx_code(a: RxStatus) -> u8
+    ensures { λ r. ⌜ r ≡ rxCode a ⌝ }
+{
+    match a {
+        RxStatus::Shows(_, _) => 0,
+        RxStatus::Refused(why) => refusal::number(why),
+    }
+}
+
+fn rx_word(a: RxStatus) -> u16
+    ensures { λ r. ⌜ r ≡ rxWordOf a ⌝ }
+{
+    match a {
+        RxStatus::Shows(word, _) => word,
+        RxStatus::Refused(_) => 0,
+    }
+}
+
+fn rx_unread(a: RxStatus) -> i16
+    ensures { λ r. ⌜ r ≡ rxUnreadOf a ⌝ }
+{
+    match a {
+        RxStatus::Shows(_, unread) => unread,
+        RxStatus::Refused(_) => 0,
+    }
+}
+
+pub fn coded_rx_status(x: RxStatus) -> CardRxStatus
+    ensures { λ r. ⌜ r ≡ codedRxStatus x ⌝ }
+{
+    let word = rx_word(x);
+    let unread = rx_unread(x);
+    let code = rx_code(x);
+    CardRxStatus {
+        word: word,
+        unread: unread,
         code: code,
     }
 }

@@ -9,10 +9,12 @@ pub mod ports; // ports.rt: the answers of the search and of an activation
 pub use cards::CardDone;
 pub use cards::CardLine;
 pub use cards::CardRead;
+pub use cards::CardRxStatus;
 pub use cards::CardTold;
 pub use cards::coded_done;
 pub use cards::coded_line;
 pub use cards::coded_read;
+pub use cards::coded_rx_status;
 pub use cards::coded_told;
 pub use drivers::DriverDone;
 pub use drivers::DriverSent;

@@ -2,7 +2,7 @@
 use mathlib.Core.Path.{_≡_}
 use mathlib.Core.List.{[], _∷_}
 use mathlib.Core.Bool.{true, false}
-use Prim.Native.Nat.{ℕ, suc, _+_, _%_, _≤_}
+use Prim.Native.Nat.{ℕ, suc, _+_, _≤_}
 use lib.ListN.{length, replicate}
 use Rattle.refusal.specs.declared.Refusal.the-variants.{StateUnsound, BudgetShort, AreaShort, CardUnfit, NeverOpened}
 use Rattle.receive_rules.specs.Frame.{whole}
@@ -17,7 +17,7 @@ use Rattle.driver_rules.specs.Talk.{Ran, run}
 use Rattle.driver_rules.specs.declared.Answer.{Answer}
 use Rattle.driver_rules.specs.declared.Answer.the-variants.{Reported, Status, Idle, Frame, Refused}
 use Rattle.driver_rules.specs.Items.{Serving, wordsIn}
-use Rattle.driver_rules.specs.Registers.{bad}
+use Rattle.driver_rules.specs.Registers.{bad, lengthIn}
 use Rattle.driver_rules.specs.Service.{lookTalk}
 use Rattle.driver_rules.specs.Send.{Sending, sendTalk}
 use Rattle.driver_rules.specs.Calls.{serviceCall}
@@ -80,7 +80,7 @@ pub record A-frame-of-1514-bytes : Type 0 where
 pub record What-a-good-frame-costs : Type 0 where
   pub of-any :
       (left : ℕ) (d : Driver) (s s₁ s₂ : Adapter) (v rx : ℕ) → access (ReadWord 14) s ≡ step v s₁ → access (ReadWord 8) s₁ ≡ step rx s₂
-      → status.unfit v ≡ false → status.txComplete v ≡ false → status.rxComplete v ≡ true → bad rx ≡ false → wordsIn (rx % 2048) + 1 ≤ left
-      → length ((run (lookTalk (suc (suc left)) d) s) .made) ≡ wordsIn (rx % 2048) + 3
+      → status.unfit v ≡ false → status.txComplete v ≡ false → status.rxComplete v ≡ true → bad rx ≡ false → wordsIn (lengthIn rx) + 1 ≤ left
+      → length ((run (lookTalk (suc (suc left)) d) s) .made) ≡ wordsIn (lengthIn rx) + 3
   pub of-60 : wordsIn 60 + 3 ≡ 33
   pub of-1514 : wordsIn 1514 + 3 ≡ 760

@@ -12,7 +12,7 @@ use Rattle.store.specs.Store.{round4}
 use Rattle.card_rules.specs.Adapter.{Adapter}
 use Rattle.card_rules.specs.Access.{Access, access}
 use Rattle.driver_rules.specs.declared.Driver.{Driver}
-use Rattle.driver_rules.specs.Registers.{unfit, txComplete, rxComplete, bad}
+use Rattle.driver_rules.specs.Registers.{unfit, txComplete, rxComplete, bad, lengthIn}
 use Rattle.driver_rules.specs.Talk.{Talk, done, ask, run, readWords, writeWords}
 use Rattle.driver_rules.specs.Driver.{driverSound, withError}
 use Rattle.driver_rules.specs.Items.{Serving, isError, seen, reports, reportTalk, idleTalk, fetchTalk, wordsIn}
@@ -100,7 +100,7 @@ mutual
   receive-keeps : (left : ℕ) (d : Driver) → driverSound d ≡ true → Always Served (receiveTalk left d)
   receive-keeps zero d s = always-done Served _ s
   receive-keeps (suc left) d s =
-      always-ask Served _ _ (λ rx. of-cond (Always Served) (bad rx) (drop-keeps left d s) (fetch-keeps left d (rx % 2048) s))
+      always-ask Served _ _ (λ rx. of-cond (Always Served) (bad rx) (drop-keeps left d s) (fetch-keeps left d (lengthIn rx) s))
 
   drop-keeps : (left : ℕ) (d : Driver) → driverSound d ≡ true → Always Served (dropTalk left d)
   drop-keeps zero d s = always-done Served _ s

@@ -3,6 +3,7 @@
 pub mod Runs
 pub mod Reading
 pub mod Status
+pub mod Count
 pub mod TalkExamples
 -- the items of a service
 pub mod ItemWays

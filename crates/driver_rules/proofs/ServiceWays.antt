@@ -1,27 +1,26 @@
 -- Each way through look and receive is the run of its tree. `access` stays shut. Assumes nothing.
 use mathlib.Core.Path.{_≡_, refl, ap, subst⁻¹, _∙_}
-use mathlib.Core.Bool.{Bool, true, false, _||_}
+use mathlib.Core.Bool.{Bool, true, false}
 use mathlib.Core.List.{List, [], _∷_, _++_}
-use Prim.Native.Nat.{ℕ, zero, suc, _+_, _-_, _%_, _≤_}
+use Prim.Native.Nat.{ℕ, zero, suc, _+_, _-_, _≤_}
 use native.Mathlib.Numerals.{sub-one}
 use native.Mathlib.Omega.{arith}
 use lib.ListN.{length, length-append}
-use lib.Dec.{ltb}
-use borrow.Author.Tests.{ltb-false}
 use Rattle.bits.specs.Bits.{has}
-use Rattle.bits.proofs.Tests.{neither, by-test}
+use Rattle.bits.proofs.Tests.{by-test}
 use Rattle.refusal.specs.declared.Refusal.the-variants.{BudgetShort, CardUnfit}
 use Rattle.card_rules.specs.declared.Card.{Card}
 use Rattle.card_rules.specs.Adapter.{Adapter}
 use Rattle.card_rules.specs.Access.{Access, ReadWord, WriteWord, step, access}
 use Rattle.driver_rules.specs.declared.Driver.{Driver}
-use Rattle.driver_rules.specs.Registers.{unfit, bad}
+use Rattle.driver_rules.specs.Registers.{unfit, bad, lengthIn}
 use Rattle.driver_rules.specs.Talk.{Ran, extended, run}
 use Rattle.driver_rules.specs.declared.Served.{Served}
 use Rattle.driver_rules.specs.declared.Answer.{Answer}
 use Rattle.driver_rules.specs.declared.Answer.the-variants.{Refused}
 use Rattle.driver_rules.specs.Items.{Serving, plain, reportTalk, idleTalk, fetchTalk}
 use Rattle.driver_rules.specs.Meets.{Ended, Tells}
+use Rattle.driver_rules.proofs.Count.{good-told}
 use Rattle.driver_rules.proofs.ItemWays.{ran, answered, stops}
 use Rattle.driver_rules.specs.Service.{lookTalk, receiveTalk, dropTalk}
 use Rattle.driver_rules.specs.Serves.{isDiscard, discarded, Meets}
@@ -86,10 +85,11 @@ module _ (d : Driver) (s s₁ : Adapter) (v : ℕ) where
   receives-bad zero h e w = absurd (h refl)
   receives-bad (suc k) h e w = rw (sub-one, e, w)
 
-  pub receives-good : (left : ℕ) → (left ≡ 0 → ⊥) → access (ReadWord 8) s ≡ step v s₁ → bad v ≡ false → run (receiveTalk left d) s ≡ extended (ReadWord 8 ∷ []) (run (fetchTalk (left - 1) d (v % 2048)) s₁)
+  pub receives-good : (left n : ℕ) → (left ≡ 0 → ⊥) → access (ReadWord 8) s ≡ step v s₁ → bad v ≡ false → n ≡ lengthIn v
+      → run (receiveTalk left d) s ≡ extended (ReadWord 8 ∷ []) (run (fetchTalk (left - 1) d n) s₁)
   unfolding run lookTalk
-  receives-good zero h e w = absurd (h refl)
-  receives-good (suc k) h e w = rw (sub-one, e, w)
+  receives-good zero n h e w m = absurd (h refl)
+  receives-good (suc k) n h e w m = rw (sub-one, e, w, m)
 
   drops : (left : ℕ) → (left ≡ 0 → ⊥) → access (WriteWord 14 16384) s ≡ step v s₁ → run (dropTalk left d) s ≡ extended (WriteWord 14 16384 ∷ []) (run (lookTalk (left - 1) d) s₁)
   unfolding run lookTalk
@@ -156,11 +156,12 @@ module _ (left : ℕ) (d : Driver) (s : Adapter) (l f : List ℕ) where
             rw dropped
             (onward (r .paused) left (left - 2) (ReadWord 8 ∷ (WriteWord 14 16384 ∷ [])) _ r s′ l f l′ f′ (omega arith) m)
 
-    pub receive-fetch : (r : Served) (s′ : Adapter) (l′ f′ : List ℕ) → bad v ≡ false → Ended (left - 1) (run (fetchTalk (left - 1) d (v % 2048)) s₁) r s′ l f l′ f′ → Meets (r .paused) left (run (receiveTalk left d) s) r s′ l f l′ f′
-    receive-fetch r s′ l′ f′ w m =
-        rw (receives-good d s s₁ v left some e₁ w)
+    pub receive-fetch : (n : ℕ) (r : Served) (s′ : Adapter) (l′ f′ : List ℕ) → bad v ≡ false → n ≡ lengthIn v → Ended (left - 1) (run (fetchTalk (left - 1) d n) s₁) r s′ l f l′ f′
+        → Meets (r .paused) left (run (receiveTalk left d) s) r s′ l f l′ f′
+    receive-fetch n r s′ l′ f′ w e m =
+        rw (receives-good d s s₁ v left n some e₁ w e)
         (onward (r .paused) left (left - 1) (ReadWord 8 ∷ []) _ r s′ l f l′ f′ (omega arith) (ends _ _ r s′ l f l′ f′ m))
 
 -- a good RX status tells no more than 1,514 bytes
-pub good-size : (v : ℕ) → bad v ≡ false → v % 2048 ≤ 1514
-good-size v w = ltb-false 1514 (v % 2048) (neither (ltb (v % 2048) 60) (ltb 1514 (v % 2048)) (neither (has 16384 v) (ltb (v % 2048) 60 || ltb 1514 (v % 2048)) w .1) .1)
+pub good-size : (v n : ℕ) → bad v ≡ false → n ≡ lengthIn v → n ≤ 1514
+good-size v n w e = rw e (good-told v w .short)

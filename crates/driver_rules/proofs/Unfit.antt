@@ -23,7 +23,7 @@ use Rattle.card_rules.specs.Write.{writeWord}
 use Rattle.card_rules.specs.Access.{Access, ReadWord, WriteWord, Step, effect, access}
 use Rattle.card_rules.proofs.StepEnds.{asleep, awake}
 use Rattle.driver_rules.specs.declared.Driver.{Driver}
-use Rattle.driver_rules.specs.Registers.{unfit, txComplete, rxComplete, rxDiscard, bad}
+use Rattle.driver_rules.specs.Registers.{unfit, txComplete, rxComplete, rxDiscard, bad, lengthIn}
 use Rattle.driver_rules.specs.Talk.{Talk, done, ask, order, run, readWords}
 use Rattle.driver_rules.proofs.Status.{unfit-status}
 use Rattle.driver_rules.specs.declared.Answer.{Answer}
@@ -166,7 +166,7 @@ mutual
   receive-safe (suc left) d a f =
       let rx : ℕ = (access (ReadWord 8) a) .value in
       let b : Adapter = (access (ReadWord 8) a) .adapter in
-      of-cond (λ (t : Talk Serving). Safe t b) (bad rx) (drop-safe left d b (fit-rx a f)) (safe (fetchTalk left d (rx % 2048)) (fetch-never left d (rx % 2048)) b)
+      of-cond (λ (t : Talk Serving). Safe t b) (bad rx) (drop-safe left d b (fit-rx a f)) (safe (fetchTalk left d (lengthIn rx)) (fetch-never left d (lengthIn rx)) b)
 
   drop-safe : (n : ℕ) (d : Driver) (a : Adapter) → Fit a → Safe (dropTalk n d) a
   drop-safe zero d a f = safe (done (short d)) (short-ends d) a

@@ -1,8 +1,11 @@
 -- The registers and commands that the driver names, from the manual. Assumes nothing.
 use mathlib.Core.Bool.{Bool, not, _||_}
-use Prim.Native.Nat.{ℕ, _*_, _/_, _%_}
-use lib.Dec.{eqb, ltb}
+use Prim.Native.Nat.{ℕ, _*_, _/_}
+use lib.Dec.{eqb}
+use lib.IntN.{ℤ, pos, negsuc}
+use lib.Signed.{ltZ}
 use Rattle.bits.specs.Bits.{has}
+use Rattle.receive_rules.specs.Count.{decoded}
 
 -- ---- registers, by their offsets: those of window 1, then Status and command, in all windows
 
@@ -64,6 +67,19 @@ rxComplete status = has 16 status
 
 -- ---- RX Status
 
--- A damaged frame: bit 14 set, or raw count outside 60 to 1,514.
+-- unread bytes outside 60 to 1,514
+abbrev pub outsideFrame : ℤ → Bool
+outsideFrame n = ltZ n (pos 60) || ltZ (pos 1514) n
+
+-- A damaged frame: bit 14 set, or such a count.
 abbrev pub bad : ℕ → Bool
-bad rx = has 16384 rx || (ltb (rx % 2048) 60 || ltb 1514 (rx % 2048))
+bad rx = has 16384 rx || outsideFrame (decoded rx)
+
+-- a count as a length: none below 0
+abbrev pub lengthOf : ℤ → ℕ
+lengthOf (pos n) = n
+lengthOf (negsuc n) = 0
+
+-- The unread bytes that the word tells, as a length.
+abbrev pub lengthIn : ℕ → ℕ
+lengthIn rx = lengthOf (decoded rx)

@@ -1,9 +1,9 @@
 -- Service, as document 01's section "The driver's accesses" has it, by the accesses that are left. Assumes nothing.
 use mathlib.Core.Bool.{cond}
-use Prim.Native.Nat.{ℕ, zero, suc, _%_}
+use Prim.Native.Nat.{ℕ, zero, suc}
 use Rattle.refusal.specs.declared.Refusal.the-variants.{CardUnfit}
 use Rattle.driver_rules.specs.declared.Driver.{Driver}
-use Rattle.driver_rules.specs.Registers.{statusPort, rxStatus, rxDiscard, unfit, txComplete, rxComplete, bad}
+use Rattle.driver_rules.specs.Registers.{statusPort, rxStatus, rxDiscard, unfit, txComplete, rxComplete, bad, lengthIn}
 use Rattle.driver_rules.specs.Talk.{Talk, done, readWord, order}
 use Rattle.driver_rules.specs.declared.Answer.the-variants.{Refused}
 use Rattle.driver_rules.specs.Items.{Serving, plain, short, reportTalk, idleTalk, fetchTalk}
@@ -24,7 +24,7 @@ unfoldable mutual
   receiveTalk zero d = done (short d)
   receiveTalk (suc left) d =
       readWord rxStatus (λ rx.
-      cond (bad rx) (dropTalk left d) (fetchTalk left d (rx % 2048)))
+      cond (bad rx) (dropTalk left d) (fetchTalk left d (lengthIn rx)))
 
   -- Discard, and the pass looks again from the start.
   pub dropTalk : ℕ → Driver → Talk Serving

@@ -47,6 +47,7 @@ card-calls c ram dir =
       collisions = one-answer done refl c ram dir _ _ _ _ _ (λ r k. k);
       seat = λ i. one-answer done refl c ram dir _ _ _ _ _ (λ r k. k);
       interrupt-line = exactly _ _;
+      rx-status = exactly _ _;
     }
 
 pub nothing-else : Nothing-else-fits

@@ -9,4 +9,5 @@ pub mod Rows
 pub mod Needs
 pub mod Endless
 pub mod When
+pub mod Signed
 pub mod NeedsExamples

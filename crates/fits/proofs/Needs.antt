@@ -3,7 +3,7 @@ use mathlib.Core.Path.{_≡_, refl, sym, ap, _∙_}
 use mathlib.Core.Logic.{_↔_}
 use mathlib.Core.Bool.{Bool, true, false, cond, _&&_, _||_}
 use mathlib.Core.List.{List}
-use Prim.Native.Nat.{ℕ, zero, suc, _+_, _%_, _<_, _≤_}
+use Prim.Native.Nat.{ℕ, zero, suc, _+_, _<_, _≤_}
 use native.Mathlib.Omega.{arith}
 use borrow.Author.Tests.{lt-ltb, le-ltb, ltb-true, ltb-false}
 use lib.Dec.{ltb, eqb}
@@ -13,7 +13,7 @@ use Rattle.card_rules.specs.Adapter.{Adapter}
 use Rattle.card_rules.specs.Access.{Access, ReadWord, access}
 use Rattle.driver_rules.specs.declared.Driver.{Driver}
 use Rattle.driver_rules.specs.Driver.{neverOpened, withError}
-use Rattle.driver_rules.specs.Registers.{rxStatus, unfit, txComplete, rxComplete, bad}
+use Rattle.driver_rules.specs.Registers.{rxStatus, unfit, txComplete, rxComplete, bad, lengthIn}
 use Rattle.driver_rules.specs.Talk.{Talk, done, ask, Ran, run, readWords, bytesRead, afterReads}
 use Rattle.driver_rules.proofs.Runs.{reads-law}
 use Rattle.driver_rules.specs.declared.Answer.{Answer}
@@ -93,9 +93,9 @@ looks left d a =
     (choice (txComplete s) _ _ (looked a) ∙ (λ i. cond (txComplete s) (report-short left d (looked a) i) (rest i)))
 
 receives : (left : ℕ) (d : Driver) (a : Adapter) → ends-short (receiveTalk (suc left) d) (looked a)
-    ≡ cond (bad (rxRead a)) (ends-short (dropTalk left d) ((access (ReadWord rxStatus) (looked a)) .adapter)) (ltb left (wordsIn (rxRead a % 2048) + 1))
+    ≡ cond (bad (rxRead a)) (ends-short (dropTalk left d) ((access (ReadWord rxStatus) (looked a)) .adapter)) (ltb left (wordsIn (lengthIn (rxRead a)) + 1))
 unfolding receiveTalk run
-receives left d a = choice (bad (rxRead a)) _ _ _ ∙ ap (cond (bad (rxRead a)) _) (fetch-short left d (rxRead a % 2048) _)
+receives left d a = choice (bad (rxRead a)) _ _ _ ∙ ap (cond (bad (rxRead a)) _) (fetch-short left d (lengthIn (rxRead a)) _)
 
 -- ---- what a service needs tells where it is short
 
@@ -115,7 +115,7 @@ needs-short a n (idle b u t x) (suc left) d = looks left d a ∙ rw (u, t, x) (s
 needs-short a n (good-frame b u t x g) zero d = sym (lt-ltb 0 n (omega arith))
 needs-short a n (good-frame b u t x g) (suc zero) d = looks 0 d a ∙ rw (u, t, x) (sym (lt-ltb 1 n (omega arith)))
 needs-short a n (good-frame b u t x g) (suc (suc left)) d =
-    looks (suc left) d a ∙ rw (u, t, x) (receives left d a ∙ rw g (same left (wordsIn (rxRead a % 2048) + 1) (suc (suc left)) n (λ h. omega arith) (λ h. omega arith)))
+    looks (suc left) d a ∙ rw (u, t, x) (receives left d a ∙ rw g (same left (wordsIn (lengthIn (rxRead a)) + 1) (suc (suc left)) n (λ h. omega arith) (λ h. omega arith)))
 needs-short a n (damaged-frame b m u t x g k) zero d = sym (lt-ltb 0 n (omega arith))
 needs-short a n (damaged-frame b m u t x g k) (suc zero) d = looks 0 d a ∙ rw (u, t, x) (sym (lt-ltb 1 n (omega arith)))
 needs-short a n (damaged-frame b m u t x g k) (suc (suc zero)) d = looks 1 d a ∙ rw (u, t, x) (receives 0 d a ∙ rw g (sym (lt-ltb 2 n (omega arith))))
@@ -158,7 +158,7 @@ mutual
   received (suc left) d a u t x e =
       let e₁ = sym (receives left d a) ∙ e in
       by-test (bad (rxRead a)) (λ g. dropped left d a u t x g (then-of (bad (rxRead a)) _ _ g e₁))
-      (λ g. let f : wordsIn (rxRead a % 2048) + 1 ≤ left = ltb-false left (wordsIn (rxRead a % 2048) + 1) (else-of (bad (rxRead a)) _ _ g e₁) in record { need = _; needed = good-frame a u t x g; within = omega arith })
+      (λ g. let f : wordsIn (lengthIn (rxRead a)) + 1 ≤ left = ltb-false left (wordsIn (lengthIn (rxRead a)) + 1) (else-of (bad (rxRead a)) _ _ g e₁) in record { need = _; needed = good-frame a u t x g; within = omega arith })
 
   dropped : (left : ℕ) (d : Driver) (a : Adapter) → unfit (statusRead a) ≡ false → txComplete (statusRead a) ≡ false → rxComplete (statusRead a) ≡ true → bad (rxRead a) ≡ true
       → ends-short (dropTalk left d) ((access (ReadWord rxStatus) (looked a)) .adapter) ≡ false → Enough (suc (suc left)) a

@@ -15,6 +15,7 @@ use Rattle.port_rules.specs.Port.{held}
 use Rattle.port_rules.specs.Gathered.{allSound}
 use Rattle.port_rules.specs.Calls as port
 use Rattle.card_rules.specs.Adapter.{Adapter}
+use Rattle.card_rules.specs.RxStatus.{rxTold}
 use Rattle.card_rules.specs.Tests.{judged}
 use Rattle.driver_rules.specs.declared.Driver.{Driver}
 use Rattle.driver_rules.specs.Registers.{unfit}
@@ -26,7 +27,7 @@ use Rattle.driver_rules.specs.Send.{Sending, ticketed, refuses, sendTalk}
 use Rattle.driver_rules.specs.Items.{Serving}
 use Rattle.driver_rules.specs.Service.{lookTalk}
 use Rattle.driver_rules.specs.Calls.{openCall, sendCall, serviceCall}
-use Rattle.fits.specs.Order.{Row, ofChecked, ofOpen, ofSend, own, imageTests, statusRead, freeRead, sendTests, serviceTests, orRefusing, orDone, Refusals-come-in-order}
+use Rattle.fits.specs.Order.{Row, ofChecked, ofRxStatus, ofOpen, ofSend, own, imageTests, statusRead, freeRead, sendTests, serviceTests, orRefusing, orDone, Refusals-come-in-order}
 
 -- ---- the card and the ID port
 
@@ -43,6 +44,11 @@ events true true = (refl, refl)
 events true false = (refl, refl)
 events false true = (refl, refl)
 events false false = (refl, refl)
+
+tellings : (sound : Bool) (a : Adapter) → Row (ofRxStatus (rxTold sound a)) (if (not sound) StateUnsound ∷ [])
+unfolding rxTold isFrom from any
+tellings true a = record { in-order = refl; first = refl }
+tellings false a = record { in-order = refl; first = refl }
 
 port-by : (sound ok : Bool) (b : Bus) (o : port.Outcome) → cond sound (cond ok o (port.refusing 12 b)) (port.refusing 1 b) ≡ orRefusing (firstOf (own sound ok ArgumentOutside)) b o
 port-by true true b o = refl
@@ -117,4 +123,4 @@ unfolding serviceCall isFrom from any
 services sound areas d budget = (refl, services-by sound (d .opened) areas d (lookTalk budget d))
 
 pub refusals-come-in-order : Refusals-come-in-order
-refusals-come-in-order = record { accesses = accesses; events = events; port = ports; image = images; opens = opens; sends = sends; services = services }
+refusals-come-in-order = record { accesses = accesses; events = events; tellings = tellings; port = ports; image = images; opens = opens; sends = sends; services = services }

@@ -11,7 +11,7 @@ use Rattle.bits.proofs.Tests.{of-cond}
 use Rattle.card_rules.specs.Adapter.{Adapter}
 use Rattle.card_rules.specs.Access.{Access, access}
 use Rattle.driver_rules.specs.declared.Driver.{Driver}
-use Rattle.driver_rules.specs.Registers.{unfit, txComplete, rxComplete, bad}
+use Rattle.driver_rules.specs.Registers.{unfit, txComplete, rxComplete, bad, lengthIn}
 use Rattle.driver_rules.specs.Talk.{Talk, done, ask, run, readWords}
 use Rattle.driver_rules.specs.Driver.{withError}
 use Rattle.driver_rules.specs.declared.Answer.the-variants.{Reported, Status, Frame, Idle, Refused}
@@ -83,7 +83,7 @@ module _ (P : Serving → Type 0) (w : Ways P) where
 
     of-receive : (left : ℕ) (d : Driver) → Always (receiveTalk left d)
     of-receive zero d = ends _ (w .budget-short d)
-    of-receive (suc left) d = asks _ _ (λ rx. of-cond Always (bad rx) (of-drop left d) (of-fetch left d (rx % 2048)))
+    of-receive (suc left) d = asks _ _ (λ rx. of-cond Always (bad rx) (of-drop left d) (of-fetch left d (lengthIn rx)))
 
     of-drop : (left : ℕ) (d : Driver) → Always (dropTalk left d)
     of-drop zero d = ends _ (w .budget-short d)

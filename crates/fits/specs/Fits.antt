@@ -35,6 +35,7 @@ use Rattle.card_rules.specs.declared.AfterSuccess.{AfterSuccess}
 use Rattle.card_rules.specs.declared.Read.{Read}
 use Rattle.card_rules.specs.Calls.{Reply, refused, value, replying, readReply, doneReply, toldReply, judged, isWord, isByte, onWire, offWire}
 use Rattle.card_rules.specs.Line.{interruptLine}
+use Rattle.card_rules.specs.RxStatus.{rxTold}
 use Rattle.card_rules.specs.Contracts as contract
 use Rattle.driver_rules.specs.declared.Driver.{Driver}
 use Rattle.driver_rules.specs.declared.Opened.{Opened}
@@ -102,8 +103,9 @@ module _ (c : Card) (ram dir : List ℕ) where
     pub success-area : (out : List ℕ) → Only (contract.success-area c ram dir out) (λ out′ out″. out′ ≡ out″)
     pub collisions : OneCall (number whole-packet 11) (contract.collisions c ram dir)
     pub seat : (i : IdState) → OneAnswer (number (idSound i) 1) (λ r. doneReply (r .answer)) (λ r. record { card = r .card; ram = ram; dir = dir }) (contract.seat c ram dir i)
-    -- it is lent nothing to change
+    -- these are lent nothing to change
     pub interrupt-line : Exactly (contract.interrupt-line c ram dir) readReply (replying (number true 1) (value (interruptLine (view c ram dir))))
+    pub rx-status : Exactly (contract.rx-status c ram dir) (λ r. r) (rxTold (soundCard c ram dir) (view c ram dir))
 
 -- ---- the driver d, handed the card too
 

@@ -4,4 +4,5 @@ pub mod Fits
 pub mod Free
 pub mod Order
 pub mod When
+pub mod Signed
 pub mod NeedsExamples

@@ -17,8 +17,11 @@ use Rattle.port_rules.specs.declared.Bus.{Bus}
 use Rattle.port_rules.specs.Port.{held}
 use Rattle.port_rules.specs.Gathered.{allSound}
 use Rattle.port_rules.specs.Calls as port
+use Rattle.card_rules.specs.declared.RxStatus.{RxStatus}
+use Rattle.card_rules.specs.declared.RxStatus.the-variants as rx
 use Rattle.card_rules.specs.Adapter.{Adapter}
 use Rattle.card_rules.specs.Access.{access, ReadWord}
+use Rattle.card_rules.specs.RxStatus.{rxTold}
 use Rattle.card_rules.specs.Tests.{judged}
 use Rattle.driver_rules.specs.declared.Driver.{Driver}
 use Rattle.driver_rules.specs.declared.OpenAnswer.{OpenAnswer}
@@ -42,6 +45,10 @@ pub record Row (outcome : Outcome) (tests : List Test) : Type 0 where
 abbrev pub ofChecked : Checked → Outcome
 ofChecked (checked.Sound w₀ w₁ w₂) = fine
 ofChecked (checked.Refused why) = because why
+
+abbrev pub ofRxStatus : RxStatus → Outcome
+ofRxStatus (rx.Shows word unread) = fine
+ofRxStatus (rx.Refused why) = because why
 
 abbrev pub ofOpen : OpenAnswer → Outcome
 ofOpen opening.Done = fine
@@ -105,6 +112,8 @@ pub record Refusals-come-in-order : Type 0 where
   -- A register access is judged by 1 and 12, an event of the wire by 1 and 11.
   pub accesses : (sound ok : Bool) → (inOrder (own sound ok ArgumentOutside) ≡ true) × (judged sound ok 12 ≡ numberIn (firstOf (own sound ok ArgumentOutside)))
   pub events : (sound ok : Bool) → (inOrder (own sound ok OutOfTurn) ≡ true) × (judged sound ok 11 ≡ numberIn (firstOf (own sound ok OutOfTurn)))
+  -- What a card tells without a step, RX Status, by 1 alone.
+  pub tellings : (sound : Bool) (a : Adapter) → Row (ofRxStatus (rxTold sound a)) (if (not sound) StateUnsound ∷ [])
   -- A call at the ID port by 1 and 12.
   pub port : (b : Bus) (ok : Bool) (o : port.Outcome) → (inOrder (own (allSound (held b)) ok ArgumentOutside) ≡ true) × (port.judged b ok o ≡ orRefusing (firstOf (own (allSound (held b)) ok ArgumentOutside)) b o)
   -- An image by 2, 8, 9 and 10.

@@ -3,7 +3,7 @@ use mathlib.Core.Path.{_≡_}
 use mathlib.Core.Logic.{_↔_, _⊎_}
 use mathlib.Core.Bool.{Bool, true, false}
 use mathlib.Core.List.{List}
-use Prim.Native.Nat.{ℕ, _+_, _%_, _<_, _≤_}
+use Prim.Native.Nat.{ℕ, _+_, _<_, _≤_}
 use lib.ListN.{length}
 use lib.Dec.{ltb}
 use Rattle.card_rules.specs.declared.Card.{Card}
@@ -15,7 +15,7 @@ use Rattle.driver_rules.specs.declared.Driver.{Driver}
 use Rattle.driver_rules.specs.declared.Opened.{Opened}
 use Rattle.driver_rules.specs.declared.Sent.{Sent}
 use Rattle.driver_rules.specs.declared.Serviced.{Serviced}
-use Rattle.driver_rules.specs.Registers.{statusPort, rxStatus, commandPort, rxDiscard, unfit, txComplete, rxComplete, bad}
+use Rattle.driver_rules.specs.Registers.{statusPort, rxStatus, commandPort, rxDiscard, unfit, txComplete, rxComplete, bad, lengthIn}
 use Rattle.driver_rules.specs.Packet.{outside, lacksRoom}
 use Rattle.driver_rules.specs.Items.{wordsIn}
 use Rattle.driver_rules.specs.Paper.{Paper, opened, ticket, short, refused, openPaper, sendPaper, servicePaper}
@@ -42,7 +42,7 @@ pub data Needs : Adapter → ℕ → Type 0 where
   report : (a : Adapter) → unfit (statusRead a) ≡ false → txComplete (statusRead a) ≡ true → Needs a (1 + 4)
   -- else RX Complete, and the frame is good
   good-frame : (a : Adapter) → unfit (statusRead a) ≡ false → txComplete (statusRead a) ≡ false → rxComplete (statusRead a) ≡ true
-      → bad (rxRead a) ≡ false → Needs a (2 + (wordsIn (rxRead a % 2048) + 1))
+      → bad (rxRead a) ≡ false → Needs a (2 + (wordsIn (lengthIn (rxRead a)) + 1))
   -- .. or damaged: it is discarded, and the pass looks again from the start
   damaged-frame : (a : Adapter) (n : ℕ) → unfit (statusRead a) ≡ false → txComplete (statusRead a) ≡ false → rxComplete (statusRead a) ≡ true
       → bad (rxRead a) ≡ true → Needs (discarded a) n → Needs a (3 + n)

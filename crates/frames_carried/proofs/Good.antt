@@ -7,15 +7,20 @@ use native.Mathlib.Omega.{arith}
 use borrow.Author.Tests.{leb-true, le-leb, lt-leb, ltb-true, ltb-false, le-ltb, eq-eqb, not-true}
 use lib.ListN.{length, getD}
 use lib.Dec.{leb, ltb, eqb}
+use lib.IntN.{ℤ, pos}
+use Rattle.bits.specs.Bits.{has}
 use Rattle.bits.proofs.Tests.{both, join, neither, never, by-test, of-cond}
 use Rattle.store.specs.Store.{atNewest}
 use Rattle.receive_rules.specs.Frame.{State, coming, whole, damaged, Frame, isComing, overran, room}
 use Rattle.receive_rules.specs.Wire.{fresh, full, marked, takes, ending, endOf, ends}
-use Rattle.receive_rules.specs.Reading.{marks, unread, complete}
+use Rattle.receive_rules.specs.Count.{unread, encoded, decoded}
+use Rattle.receive_rules.specs.Reading.{marks, complete}
 use Rattle.receive_rules.specs.Sound.{sized, started, ended, inOrder}
 use Rattle.receive_rules.proofs.Keeps.{marked-comes}
 use Rattle.receive_rules.proofs.Taking.{takes-none, takes-marks, takes-longer}
-use Rattle.driver_rules.specs.Registers.{bad}
+use Rattle.receive_rules.proofs.Count.{unread-between, decoded-encoded}
+use Rattle.driver_rules.specs.Registers.{outsideFrame, bad, lengthOf, lengthIn}
+use Rattle.driver_rules.proofs.Count.{good-told}
 use Rattle.frames_carried.specs.Bytes.{octets, codeFits, holdable}
 use Rattle.frames_carried.specs.Brings.{ifGood, good, newest, isWhole, noCode}
 use Rattle.frames_carried.specs.Reads.{offered}
@@ -219,26 +224,24 @@ unfolding complete
 oldest-of [] h = never h
 oldest-of (f ∷ fs) h = record { first = f; behind = fs; shape = refl; over = not-true (isComing (f .state)) h }
 
-pub oldest-sized : (s : Bool) (f : Frame) (fs : List Frame) → inOrder s (f ∷ fs) ≡ true → length (f .bytes) ≤ 1792
-unfolding inOrder
-oldest-sized true f [] h = leb-true (length (f .bytes)) 1792 (both (leb 8 (length (f .bytes))) (leb (length (f .bytes)) 1792) (both (sized (length (f .bytes))) (isComing (f .state)) h .0) .1)
-oldest-sized false f [] h = leb-true (length (f .bytes)) 1792 (both (leb 8 (length (f .bytes))) (leb (length (f .bytes)) 1792) (both (sized (length (f .bytes))) (not (isComing (f .state))) h .0) .1)
-oldest-sized s f (g ∷ fs) h =
-    leb-true (length (f .bytes)) 1792 (both (leb 8 (length (f .bytes))) (leb (length (f .bytes)) 1792) (both (sized (length (f .bytes))) (not (isComing (f .state))) (both (ended f) (inOrder s (g ∷ fs)) h .0) .0) .1)
-
 abbrev pub shows : State → ℕ → ℕ
-shows s n = marks s + unread n 0
+shows s n = marks s + encoded (unread n 0)
+
+-- .. it tells its bytes
+told-bytes : (s : State) (n : ℕ) → n ≤ 1792 → decoded (shows s n) ≡ pos n
+told-bytes s n h = let e : n + 0 ≡ n = omega arith in decoded-encoded s (unread n 0) (unread-between n 0 h (omega arith)) ∙ ap pos e
 
 -- a whole frame of 60 to 1,514 bytes is not bad
-pub whole-fine : (n : ℕ) → 60 ≤ n → n ≤ 1514 → bad n ≡ false
+pub whole-fine : (n : ℕ) → 60 ≤ n → n ≤ 1514 → (bad (shows whole n) ≡ false) × (lengthIn (shows whole n) ≡ n)
+unfolding marks
 whole-fine n l s =
-    let m : n % 2048 ≡ n = omega arith in
-    let q : n / 16384 % 2 ≡ 0 = omega arith in
-    rw (q, m, le-ltb n 60 l, le-ltb 1514 n s)
+    let e = told-bytes whole n (omega arith) in
+    let q : shows whole n / 16384 % 2 ≡ 0 = omega arith in
+    (ap (λ (z : ℤ). has 16384 (shows whole n) || outsideFrame z) e ∙ rw (q, le-ltb n 60 l, le-ltb 1514 n s), ap lengthOf e)
 
 pub record Fine-status (s : State) (n v : ℕ) : Type 0 where
   pub whole : isWhole s ≡ true
-  pub count : v % 2048 ≡ n
+  pub count : lengthIn v ≡ n
   pub long : 60 ≤ n
   pub short : n ≤ 1514
 
@@ -246,9 +249,9 @@ pub fine-status : (s : State) (n : ℕ) → isComing s ≡ false → codeFits s 
 unfolding isComing codeFits marks isWhole
 fine-status (coming o) n c k h b = never (sym c)
 fine-status whole n c k h b =
-    let e : shows whole n % 2048 ≡ n = omega arith in
-    let p = neither (ltb (shows whole n % 2048) 60) (ltb 1514 (shows whole n % 2048)) (neither (eqb (shows whole n / 16384 % 2) 1) _ b .1) in
-    record { whole = refl; count = e; long = rw e at (ltb-false (shows whole n % 2048) 60 (p .0)); short = rw e at (ltb-false 1514 (shows whole n % 2048) (p .1)) }
+    let g = good-told (shows whole n) b in
+    let c : lengthIn (shows whole n) ≡ n = ap lengthOf (told-bytes whole n h) in
+    record { whole = refl; count = c; long = rw c at (g .long); short = rw c at (g .short) }
 fine-status (damaged j) n c k h b =
     let small : j < 8 = ltb-true j 8 k in
     let e : shows (damaged j) n / 16384 % 2 ≡ 1 = omega arith in
@@ -261,8 +264,7 @@ bad-none whole bytes h b =
     by-test (leb 60 (length bytes) && leb (length bytes) 1514)
     (λ y.
     let p = both (leb 60 (length bytes)) (leb (length bytes) 1514) y in
-    let e : shows whole (length bytes) ≡ length bytes = omega arith in
-    never (sym (ap bad e ∙ whole-fine (length bytes) (leb-true 60 (length bytes) (p .0)) (leb-true (length bytes) 1514 (p .1))) ∙ b))
+    never (sym (whole-fine (length bytes) (leb-true 60 (length bytes) (p .0)) (leb-true (length bytes) 1514 (p .1)) .0) ∙ b))
     (λ n. rw n)
 bad-none (damaged k) bytes h b = refl
 

@@ -2,7 +2,7 @@
 use mathlib.Core.Path.{_≡_, refl, ap, subst⁻¹, _∙_}
 use mathlib.Core.Bool.{Bool, true, false, cond, not, _&&_, _||_}
 use mathlib.Core.List.{List, [], _∷_, _++_, append-assoc, append-nil, map}
-use Prim.Native.Nat.{ℕ, zero, suc, _+_, _%_, _≤_, _<_}
+use Prim.Native.Nat.{ℕ, zero, suc, _+_, _≤_, _<_}
 use native.Mathlib.Omega.{arith}
 use borrow.Author.Tests.{le-ltb}
 use lib.ListN.{length, take, drop, replicate, length-append, length-replicate}
@@ -16,7 +16,7 @@ use Rattle.receive_rules.specs.Frame.{whole, Frame, isComing, overran, room}
 use Rattle.receive_rules.specs.Wire as wires
 use Rattle.receive_rules.specs.Wire.{fresh, ending, ends, passes}
 use Rattle.receive_rules.specs.Early.{settleEarly}
-use Rattle.receive_rules.specs.Reading.{complete, marks, withoutOldest}
+use Rattle.receive_rules.specs.Reading.{complete, withoutOldest}
 use Rattle.receive_rules.proofs.Whole.{Storing, start-stored, byte-stored}
 use Rattle.transmit_rules.specs.Outcome.{some}
 use Rattle.card_rules.specs.Adapter.{Adapter}
@@ -27,7 +27,7 @@ use Rattle.card_rules.specs.Access.{ReadWord, WriteWord, step, access}
 use Rattle.card_rules.specs.Event as card
 use Rattle.card_rules.specs.Calls.{onWire, offWire}
 use Rattle.driver_rules.specs.declared.Driver.{Driver}
-use Rattle.driver_rules.specs.Registers.{unfit, txComplete, rxComplete, bad}
+use Rattle.driver_rules.specs.Registers.{unfit, txComplete, rxComplete, bad, lengthIn}
 use Rattle.driver_rules.specs.Talk.{Talk, done, Ran, run, afterReads, bytesRead}
 use Rattle.driver_rules.proofs.Runs.{reads-law}
 use Rattle.driver_rules.specs.declared.Answer.the-variants as answer
@@ -108,7 +108,7 @@ abbrev hand : Driver → ℕ → List ℕ → Serving
 hand d n bytes = record { answer = answer.Frame n; driver = d; bytes = bytes }
 
 module _ (left : ℕ) (d : Driver) (s s₃ : Adapter) (v rx n : ℕ) (e₁ : access (ReadWord 14) s ≡ step v s) (e₂ : access (ReadWord 8) s ≡ step rx s)
-    (fit : unfit v ≡ false) (none : txComplete v ≡ false) (some : rxComplete v ≡ true) (good : bad rx ≡ false) (count : rx % 2048 ≡ n)
+    (fit : unfit v ≡ false) (none : txComplete v ≡ false) (some : rxComplete v ≡ true) (good : bad rx ≡ false) (count : lengthIn rx ≡ n)
     (enough : wordsIn n + 1 ≤ left) (e₃ : access (WriteWord 14 16384) (afterReads (wordsIn n) s) ≡ step 0 s₃) where
   hands : run (lookTalk (suc (suc left)) d) s
       ≡ record { answer = hand d n (take n (bytesRead (wordsIn n) s)); made = ReadWord 14 ∷ (ReadWord 8 ∷ (replicate (wordsIn n) (ReadWord 0) ++ (WriteWord 14 16384 ∷ []))); adapter = s₃ }
@@ -169,12 +169,8 @@ module _ (b : Bench) (sound : soundBench b ≡ true) (bytes : List ℕ) (behind 
     received =
         status-received (a .select) (flags a) ∙ ap (λ (n : ℕ). has 16 n && complete (a .rx .frames)) (h .hides-nothing) ∙ ap complete (h .oldest)
 
-    count : shows whole (length bytes) ≡ length bytes
-    unfolding marks
-    count = omega (arith, h .short)
-
-    read-count : access (ReadWord 8) (b .adapter) ≡ step (length bytes) (b .adapter)
-    read-count = read-rx a f behind (adapter-of b sound) (h .active) (h .window) (h .none-read) (h .oldest) ∙ ap (λ (n : ℕ). step n a) count
+    read-count : access (ReadWord 8) (b .adapter) ≡ step (shows whole (length bytes)) (b .adapter)
+    read-count = read-rx a f behind (adapter-of b sound) (h .active) (h .window) (h .none-read) (h .oldest)
 
   served-up : (budget : ℕ) → Waiting bytes behind budget s b → serves budget s b
       ≡ record {
@@ -187,10 +183,10 @@ module _ (b : Bench) (sound : soundBench b ≡ true) (bytes : List ℕ) (behind 
   served-up (suc zero) h = absurd (omega (arith, h .enough))
   served-up (suc (suc left)) h =
       let d : Driver = b .driver in
-      let m : length bytes % 2048 ≡ length bytes = omega (arith, h .short) in
+      let fine = whole-fine (length bytes) (h .long) (h .short) in
       ap (λ (t : Talk Serving). run t a) (looks (b .driver) (full s) (suc (suc left)) (h .opened) (h .areas))
-      ∙ hands left d a _ (statusWord a) (length bytes) (length bytes) (read-status a (adapter-of b sound) (h .active)) (read-count (suc (suc left)) h) (fit (suc (suc left)) h)
-      (unreported (suc (suc left)) h) (received (suc (suc left)) h) (whole-fine (length bytes) (h .long) (h .short)) m (omega (arith, h .enough))
+      ∙ hands left d a _ (statusWord a) (shows whole (length bytes)) (length bytes) (read-status a (adapter-of b sound) (h .active)) (read-count (suc (suc left)) h) (fit (suc (suc left)) h)
+      (unreported (suc (suc left)) h) (received (suc (suc left)) h) (fine .0) (fine .1) (omega (arith, h .enough))
       (after-all a f behind (outset (suc (suc left)) h) refl (h .octets))
       ∙ ap (λ (l : List ℕ). record {
         answer = hand d (length bytes) l;

@@ -2,7 +2,7 @@
 use mathlib.Core.Path.{_≡_, refl, sym, ap, subst⁻¹, _∙_}
 use mathlib.Core.Bool.{Bool, true, false, cond, not, _&&_, _||_}
 use mathlib.Core.List.{List, [], _∷_}
-use Prim.Native.Nat.{ℕ, zero, suc, _+_, _*_, _-_, _%_, _≤_}
+use Prim.Native.Nat.{ℕ, zero, suc, _+_, _*_, _-_, _≤_}
 use native.Mathlib.Omega.{arith}
 use borrow.Author.Tests.{ltb-true, not-false}
 use lib.ListN.{length, take, length-append}
@@ -27,7 +27,7 @@ use Rattle.card_rules.specs.Write.{coversHigh, write, write1, writeWord, writeB
 use Rattle.card_rules.specs.Access.{Access, ReadWord, ReadByte, WriteWord, WriteByte, Step, effect, access}
 use Rattle.card_rules.proofs.StepEnds.{awake}
 use Rattle.driver_rules.specs.declared.Driver.{Driver}
-use Rattle.driver_rules.specs.Registers.{rxDiscard, unfit, txComplete, rxComplete, bad}
+use Rattle.driver_rules.specs.Registers.{rxDiscard, unfit, txComplete, rxComplete, bad, lengthIn}
 use Rattle.driver_rules.specs.Talk as talk
 use Rattle.driver_rules.specs.Talk.{Talk, done, order, Ran, run, afterReads}
 use Rattle.driver_rules.proofs.Runs.{reads-law}
@@ -279,7 +279,7 @@ mutual
       let size = sized-of a f fs (h .sane .sound) (o .shape) in
       let code = holds-first f fs (ap holdable (sym (o .shape)) ∙ h .sane .held) .0 .code in
       let P : Talk Serving → Type 0 = λ t. Less a (run t a .adapter) in
-      subst⁻¹ (λ (t : Step). Less a (run (cond (bad (t .value)) (dropTalk left d) (fetchTalk left d (t .value % 2048))) (t .adapter) .adapter))
+      subst⁻¹ (λ (t : Step). Less a (run (cond (bad (t .value)) (dropTalk left d) (fetchTalk left d (lengthIn (t .value)))) (t .adapter) .adapter))
       (read-rx a f fs (h .sane .sound) (h .active) (fits-window a h) (h .sane .read) (o .shape))
       (of-test P (bad (shows (f .state) (length (f .bytes))))
       (λ b. discard-less left d a f fs h e (bad-none (f .state) (f .bytes) size b) (omega arith))

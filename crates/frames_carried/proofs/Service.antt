@@ -2,7 +2,7 @@
 use mathlib.Core.Path.{_≡_, refl, sym, ap, subst, subst⁻¹, _∙_}
 use mathlib.Core.Bool.{Bool, true, false, cond}
 use mathlib.Core.List.{List, [], _∷_, _++_}
-use Prim.Native.Nat.{ℕ, zero, suc, _+_, _*_, _%_, _≤_}
+use Prim.Native.Nat.{ℕ, zero, suc, _+_, _*_, _≤_}
 use native.Mathlib.Omega.{arith}
 use lib.ListN.{length, take}
 use lib.Dec.{eqb, ltb}
@@ -13,6 +13,7 @@ use Rattle.receive_rules.specs.Frame.{Frame, isComing}
 use Rattle.receive_rules.specs.Reading as reading
 use Rattle.receive_rules.specs.Reading.{complete, withoutOldest}
 use Rattle.receive_rules.specs.Sound.{inOrder}
+use Rattle.receive_rules.proofs.Order.{oldest-sized}
 use Rattle.receive_rules.proofs.Facts.{sound-told}
 use Rattle.card_rules.specs.Adapter.{Adapter}
 use Rattle.card_rules.specs.Update.{withRx}
@@ -25,7 +26,7 @@ use Rattle.card_rules.specs.Read.{wordAt, afterWord}
 use Rattle.card_rules.specs.Access.{ReadWord, WriteWord, Step, step, effect, access}
 use Rattle.card_rules.proofs.StepEnds.{asleep, awake}
 use Rattle.driver_rules.specs.declared.Driver.{Driver}
-use Rattle.driver_rules.specs.Registers.{rxDiscard, unfit, txComplete, rxComplete, bad}
+use Rattle.driver_rules.specs.Registers.{rxDiscard, unfit, txComplete, rxComplete, bad, lengthIn}
 use Rattle.driver_rules.specs.Talk.{Talk, done, order, Ran, run, afterReads, bytesRead}
 use Rattle.driver_rules.proofs.Runs.{reads-law}
 use Rattle.driver_rules.specs.declared.Answer.the-variants.{Refused}
@@ -37,7 +38,7 @@ use Rattle.frames_carried.specs.Bytes.{octets, holdable}
 use Rattle.frames_carried.specs.Brings.{ifGood, good, isWhole}
 use Rattle.frames_carried.specs.Reads.{offered}
 use Rattle.frames_carried.proofs.Still.{Still, Quiet, still-run, isFrame, Nothing, quiet-refused, quiet-report, quiet-idle}
-use Rattle.frames_carried.proofs.Good.{Intact, intact-drop, Tails, tail-same, tail-then, tail-drop, holds-first, oldest-of, oldest-sized, shows, fine-status, bad-none, one-good, offered-some}
+use Rattle.frames_carried.proofs.Good.{Intact, intact-drop, Tails, tail-same, tail-then, tail-drop, holds-first, oldest-of, shows, fine-status, bad-none, one-good, offered-some}
 use Rattle.driver_rules.proofs.Status.{status-received, fit-window}
 use Rattle.frames_carried.proofs.Fetch.{status-access, discard-access, At, reads, take-pairs}
 
@@ -101,7 +102,7 @@ read-rx a f fs s y w r e =
 pub sized-of : (a : Adapter) (f : Frame) (fs : List Frame) → sound a ≡ true → a .rx .frames ≡ f ∷ fs → length (f .bytes) ≤ 1792
 sized-of a f fs s e =
     let k = sound-told (rxRoom a) (a .rx) (rx-of a s) .0 in
-    oldest-sized (eqb (a .rx .receiver .wire) 2) f fs (subst (λ (l : List Frame). inOrder (eqb (a .rx .receiver .wire) 2) l ≡ true) e (k .order))
+    oldest-sized (eqb (a .rx .receiver .wire) 2) f fs (subst (λ (l : List Frame). inOrder (eqb (a .rx .receiver .wire) 2) l ≡ true) e (k .order)) .1
 
 -- the adapter without its oldest frame
 abbrev pub dropped : Adapter → Frame → List Frame → Adapter
@@ -237,7 +238,7 @@ mutual
       let h : Ended a f fs = record { sane = s; active = y; window = w; shape = o .shape; over = o .over } in
       let size = sized-of a f fs (s .sound) (o .shape) in
       let code = holds-first f fs (ap holdable (sym (o .shape)) ∙ s .held) .0 .code in
-      subst⁻¹ (λ (t : Step). Goes a (cond (bad (t .value)) (dropTalk left d) (fetchTalk left d (t .value % 2048))) (t .adapter)) (read-rx a f fs (s .sound) y w (s .read) (o .shape))
+      subst⁻¹ (λ (t : Step). Goes a (cond (bad (t .value)) (dropTalk left d) (fetchTalk left d (lengthIn (t .value)))) (t .adapter)) (read-rx a f fs (s .sound) y w (s .read) (o .shape))
       (of-test (λ (t : Talk Serving). Goes a t a) (bad v)
       (λ b. drop-carries left d a f fs h (bad-none (f .state) (f .bytes) size b))
       (λ b.

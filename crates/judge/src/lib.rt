@@ -6,7 +6,8 @@ ghost use lib.ListN.{getD};
 ghost use Rattle.store.specs.Store.{round4};
 ghost use Rattle.driver_rules.specs.Driver.{driverSound};
 ghost use Rattle.driver_rules.specs.Packet.{outside, lacksRoom};
-ghost use Rattle.driver_rules.specs.Registers.{unfit, txComplete, rxComplete, bad};
+ghost use Rattle.receive_rules.specs.Count.{decoded as decodedOf};
+ghost use Rattle.driver_rules.specs.Registers.{unfit, txComplete, rxComplete, bad, lengthIn};
 use driver_rules::Driver;
 
 pub mod sizes; // sizes.rt: the paper's numbers: the areas, the lengths of frames and packets, RX Status's count, and the packets unreported
@@ -39,12 +40,34 @@ pub fn is_rx_complete(status: u16) -> bool
     bits::has(status, 16)
 }
 
-// RX Status with bit 14 set, or a raw count outside 60 to 1,514.
+// The unread bytes that RX Status tells.
+fn decoded(rx: u16) -> i16
+    ensures { λ r. ⌜ r ≡ decodedOf rx ⌝ }
+{
+    let told = rx % sizes::COUNT_VALUES;
+    if told <= sizes::MOST_UNREAD {
+        return told as i16;
+    }
+    told as i16 - sizes::COUNT_VALUES as i16
+}
+
+// RX Status with bit 14 set, or unread bytes outside 60 to 1,514.
 pub fn is_bad(rx: u16) -> bool
     ensures { λ r. ⌜ r ≡ bad rx ⌝ }
 {
-    let count = rx % sizes::RAW_COUNT;
+    let count = decoded(rx);
     bits::has(rx, 16384) | ((count < sizes::SHORTEST_FRAME) | (sizes::LONGEST_FRAME < count))
+}
+
+// The unread bytes that RX Status tells, as a length: none below 0.
+pub fn length(rx: u16) -> usize
+    ensures { λ r. ⌜ r ≡ lengthIn rx ⌝ }
+{
+    let count = decoded(rx);
+    if count < 0 {
+        return 0;
+    }
+    count as usize
 }
 
 // Byte i of a packet, 0 past its end.

@@ -6,18 +6,20 @@ pub const LOOKAHEAD_AREA: usize = 256;
 // The frame area: a longer frame lies there.
 pub const FRAME_AREA: usize = 1514;
 
-// A good frame's raw count.
-pub const SHORTEST_FRAME: u16 = 60;
+// The unread bytes of a frame that is taken.
+pub const SHORTEST_FRAME: i16 = 60;
 
-pub const LONGEST_FRAME: u16 = 1514;
+pub const LONGEST_FRAME: i16 = 1514;
 
 // A packet's length, without its check bytes.
 pub const SHORTEST_PACKET: usize = 14;
 
 pub const LONGEST_PACKET: usize = 1514;
 
-// The raw count of RX Status: bits 10-0, the remainder by this.
-pub const RAW_COUNT: u16 = 2048;
+// The values of RX Status's count, bits 10-0; above the most that a frame has it is below 0.
+pub const COUNT_VALUES: u16 = 2048;
+
+pub const MOST_UNREAD: u16 = 1792;
 
 // As many packets are unreported at most.
 pub const MOST_UNREPORTED: u8 = 16;

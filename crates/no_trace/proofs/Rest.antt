@@ -19,7 +19,7 @@ use Rattle.card_rules.specs.Access.{Access, ReadWord, WriteWord, Step, effect, 
 use Rattle.card_rules.proofs.StepEnds.{asleep, awake}
 use Rattle.driver_rules.specs.declared.Driver.{Driver}
 use Rattle.driver_rules.specs.Driver.{withError}
-use Rattle.driver_rules.specs.Registers.{unfit, txComplete, rxComplete, bad}
+use Rattle.driver_rules.specs.Registers.{unfit, txComplete, rxComplete, bad, lengthIn}
 use Rattle.driver_rules.specs.Talk.{Talk, done, ask, run, readWords}
 use Rattle.driver_rules.specs.declared.Answer.{Answer}
 use Rattle.driver_rules.specs.declared.Answer.the-variants as answer
@@ -148,7 +148,7 @@ mutual
   receive-calms (suc n) d a s =
       let x : ℕ = (access (ReadWord 8) a) .value in
       let b : Adapter = (access (ReadWord 8) a) .adapter in
-      of-cond (λ (t : Talk Serving). Calms t b) (bad x) (drop-calms n d b (fine-rx a s)) (busy-calms b (busy-fetch n d (x % 2048)))
+      of-cond (λ (t : Talk Serving). Calms t b) (bad x) (drop-calms n d b (fine-rx a s)) (busy-calms b (busy-fetch n d (lengthIn x)))
 
   drop-calms : (n : ℕ) (d : Driver) (a : Adapter) → Set a → Calms (dropTalk n d) a
   drop-calms zero d a s = ends-busy (short d) a refl

@@ -10,7 +10,8 @@ use lib.Dec.{leb}
 use Rattle.receive_rules.specs.Frame.{State, coming, damaged, Frame, Rx, isComing}
 use Rattle.receive_rules.specs.Early.{earlyFlag, toldFlag}
 use Rattle.receive_rules.specs.Reading as reading
-use Rattle.receive_rules.specs.Reading.{rxStatus, marks, unread, complete, withoutOldest}
+use Rattle.receive_rules.specs.Count.{unread, encoded}
+use Rattle.receive_rules.specs.Reading.{rxStatus, marks, complete, withoutOldest}
 use Rattle.transmit_rules.specs.Queue as queue
 use Rattle.transmit_rules.specs.Reports.{withSender, withStatuses, withAvailable}
 use Rattle.transmit_rules.specs.Outcome.{some, due}
@@ -160,9 +161,9 @@ tells-ended s bs k = tells s (side s false false 0 (frame bs (damaged k))) true 
 
 -- RX Status of it, and RX Discard
 pub rx-read : (s : Adapter) → Settled s → (bs : List ℕ) (k : ℕ) →
-    access (ReadWord 8) (ended s bs k) ≡ step (16384 + k * 2048 + unread (length bs) 0) (ended s bs k)
+    access (ReadWord 8) (ended s bs k) ≡ step (16384 + k * 2048 + encoded (unread (length bs) 0)) (ended s bs k)
 unfolding access effect wordAt afterWord window1 rxStatus marks
-rx-read s h bs k = ap (step (16384 + k * 2048 + unread (length bs) 0)) (settle-damaged s h false false 0 k bs)
+rx-read s h bs k = ap (step (16384 + k * 2048 + encoded (unread (length bs) 0))) (settle-damaged s h false false 0 k bs)
 
 pub discards : (s : Adapter) → Settled s → (bs : List ℕ) (k : ℕ) → access (WriteWord 14 16384) (ended s bs k) ≡ step 0 (calm s)
 unfolding access effect writeWord commanded command reading.discard withoutOldest isComing
@@ -209,8 +210,8 @@ pub look-idle : (n : ℕ) (d : Driver) (a b c : Adapter) → Quiet a b → acces
 unfolding run lookTalk idleTalk
 look-idle n d a b c q ack = rw (q .reads, q .shows .fit, q .shows .none, q .shows .some-frame, ack)
 
-bad-word : (k n : ℕ) → k ≤ 5 → bad (16384 + k * 2048 + unread n 0) ≡ true
-bad-word k n h = rw (eq-eqb ((16384 + k * 2048 + unread n 0) / 16384 % 2) 1 (omega arith))
+bad-word : (k n : ℕ) → k ≤ 5 → bad (16384 + k * 2048 + encoded (unread n 0)) ≡ true
+bad-word k n h = rw (eq-eqb ((16384 + k * 2048 + encoded (unread n 0)) / 16384 % 2) 1 (omega arith))
 
 look-drop : (n : ℕ) (d : Driver) (a b : Adapter) (w x : ℕ) → access (ReadWord 14) a ≡ step w a → Tells true w → access (ReadWord 8) a ≡ step x a → bad x ≡ true →
     access (WriteWord 14 16384) a ≡ step 0 b →

@@ -2,10 +2,10 @@
 use mathlib.Core.Path.{_≡_}
 use mathlib.Core.Bool.{Bool, true, cond, _||_}
 use mathlib.Core.List.{List}
-use Prim.Native.Nat.{ℕ, _%_}
+use Prim.Native.Nat.{ℕ}
 use lib.ListN.{replicate}
-use lib.Dec.{ltb}
 use Rattle.bits.specs.Bits.{has}
+use Rattle.receive_rules.specs.Count.{decoded}
 use Rattle.driver_rules.specs.declared.Driver.{Driver}
 use Rattle.driver_rules.specs.Registers.{statusPort, rxStatus, rxDiscard, rxComplete}
 use Rattle.driver_rules.specs.Talk.{Talk, run, readWord, order}
@@ -20,14 +20,14 @@ unfoldable pub pass : (ℕ → Bool) → (ℕ → Bool) → Driver → Talk Serv
 pass goesOn isBad d =
     readWord statusPort (λ status.
     cond (goesOn status)
-    (readWord rxStatus (λ rx. cond (isBad rx) (order rxDiscard 0 (idleTalk 10 d)) (fetchTalk 1000 d (rx % 2048))))
+    (readWord rxStatus (λ rx. cond (isBad rx) (order rxDiscard 0 (idleTalk 10 d)) (fetchTalk 1000 d (registers.lengthIn rx))))
     (idleTalk 10 d))
 
 abbrev pub hands : (ℕ → Bool) → (ℕ → Bool) → Bench → List ℕ
 hands goesOn isBad b = run (pass goesOn isBad (b .driver)) (b .adapter) .answer .bytes
 
 abbrev pub outside : ℕ → Bool
-outside rx = ltb (rx % 2048) 60 || ltb 1514 (rx % 2048)
+outside rx = registers.outsideFrame (decoded rx)
 
 -- 100 bytes that end with a bad check; before the end, and after it
 abbrev pub unfinished : Bench

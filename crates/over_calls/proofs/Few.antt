@@ -1,14 +1,14 @@
 -- With less than three accesses a service discards nothing: it reads Status and RX Status, and then it is short. Assumes nothing.
 use mathlib.Core.Path.{_≡_, refl}
 use mathlib.Core.Bool.{Bool, false, not}
-use Prim.Native.Nat.{ℕ, zero, suc, _+_, _%_, _<_}
+use Prim.Native.Nat.{ℕ, zero, suc, _+_, _<_}
 use native.Mathlib.Omega.{arith}
 use borrow.Author.Tests.{lt-ltb}
 use Rattle.bits.proofs.Tests.{of-cond}
 use Rattle.card_rules.specs.Adapter.{Adapter}
 use Rattle.card_rules.specs.Access.{Access, access}
 use Rattle.driver_rules.specs.declared.Driver.{Driver}
-use Rattle.driver_rules.specs.Registers.{unfit, txComplete, rxComplete, bad}
+use Rattle.driver_rules.specs.Registers.{unfit, txComplete, rxComplete, bad, lengthIn}
 use Rattle.driver_rules.specs.Talk.{Talk, done, ask, run}
 use Rattle.driver_rules.specs.Items.{Serving, short, reportTalk, idleTalk, fetchTalk, wordsIn}
 use Rattle.driver_rules.specs.Service.{lookTalk, receiveTalk}
@@ -33,7 +33,7 @@ fetch-none d n = rw (lt-ltb 0 (wordsIn n + 1) (omega arith)) (ends (short d))
 
 receive-one : (d : Driver) → None (receiveTalk 1 d)
 unfolding lookTalk
-receive-one d = asks _ _ refl (λ rx. of-cond None (bad rx) (ends _) (fetch-none d (rx % 2048)))
+receive-one d = asks _ _ refl (λ rx. of-cond None (bad rx) (ends _) (fetch-none d (lengthIn rx)))
 
 look-few : (budget : ℕ) (d : Driver) → budget < 3 → None (lookTalk budget d)
 unfolding lookTalk reportTalk idleTalk

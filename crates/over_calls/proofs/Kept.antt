@@ -11,7 +11,7 @@ use Rattle.card_rules.specs.Adapter.{Adapter}
 use Rattle.card_rules.specs.View.{view}
 use Rattle.card_rules.specs.Access.{Access, access}
 use Rattle.driver_rules.specs.declared.Driver.{Driver}
-use Rattle.driver_rules.specs.Registers.{unfit, txComplete, rxComplete, bad}
+use Rattle.driver_rules.specs.Registers.{unfit, txComplete, rxComplete, bad, lengthIn}
 use Rattle.driver_rules.specs.Talk.{Talk, done, ask, run, readWords}
 use Rattle.driver_rules.specs.Driver.{withError}
 use Rattle.driver_rules.specs.declared.Answer.the-variants as serving
@@ -102,7 +102,7 @@ module _ (d : Driver) where
 
     of-receive : (left : ℕ) → Always (receiveTalk left d)
     of-receive zero = ends _ (of-short d)
-    of-receive (suc left) = asks _ _ (λ rx. of-cond Always (bad rx) (of-drop left) (of-fetch left (rx % 2048)))
+    of-receive (suc left) = asks _ _ (λ rx. of-cond Always (bad rx) (of-drop left) (of-fetch left (lengthIn rx)))
 
     of-drop : (left : ℕ) → Always (dropTalk left d)
     of-drop zero = ends _ (of-short d)

@@ -9,6 +9,7 @@ ghost use Rattle.frames_carried.specs.Carried.{Stores-are-such, A-good-frame-ar
 ghost use Rattle.fits.specs.Free.{The-memory-is-left-free};
 ghost use Rattle.fits.specs.Order.{Refusals-come-in-order};
 ghost use Rattle.fits.specs.When.{Refused-exactly-when};
+ghost use Rattle.fits.specs.Signed.{Unread-bytes-are-signed};
 ghost use Rattle.fits.specs.NeedsExamples.{What-services-need};
 ghost use Rattle.run_calls.specs.OneTest.{The-one-test-of-soundness};
 ghost use Rattle.driver_rules.specs.Unfit.{Unfit-comes-at-once};
@@ -46,6 +47,11 @@ pub fn every_access_keeps_soundness()
 // The least threshold moves no RX Early: at every moment of every run Status and all that is answered next are those of the rule before it, but for window 5's read-back.
 pub fn rx_early_comes_as_before()
     ensures { λ _. ⌜ RX-Early-comes-as-before ⌝ }
+{}
+
+// RX Status tells the unread bytes as a signed number, -3 to 1,792, and the rules that go by it are the rules before it.
+pub fn unread_bytes_are_signed()
+    ensures { λ _. ⌜ Unread-bytes-are-signed ⌝ }
 {}
 
 // A worked example: two damaged frames, one with service calls among its bytes.

@@ -8,10 +8,12 @@ use borrow.Author.Tests.{le-leb, lt-leb}
 use lib.Dec.{leb}
 use lib.ListN.{length, getD}
 use Rattle.store.specs.Store as store
-use Rattle.receive_rules.specs.Reading.{marks, unread, rxStatus, complete, readable, oldest}
+use Rattle.store.specs.Store.{round4}
+use Rattle.receive_rules.specs.Count.{unread, encoded}
+use Rattle.receive_rules.specs.Reading.{marks, unreadIn, rxStatus, complete, readable, padIn, oldest}
 use Rattle.receive_rules.specs.View.{stateOf, told, rxArea, framesOf, Turns}
 use Rattle.receive_rules.proofs.Laws.{coming-word, lift}
-use Rattle.receive_rules.proofs.Oldest.{front, shown-first, readable-some}
+use Rattle.receive_rules.proofs.Oldest.{none, front, shown-first, readable-some}
 
 -- ---- the marks of a word
 
@@ -34,7 +36,13 @@ pick true a b p q = p
 pick false a b p q = q
 
 module _ (size n : ℕ) (ram dir : List ℕ) (S : store.Sound (rxArea size) n ram dir) (h : n ≡ 0 → ⊥) where
-  pub status-some : (read : ℕ) → rxStatus read (framesOf size n ram dir) ≡ marks (stateOf (getD dir 0 0 / 2048)) + unread (getD dir 0 0 % 2048) read
+  pub unread-some : (read : ℕ) → unreadIn read (framesOf size n ram dir) ≡ unread (getD dir 0 0 % 2048) read
+  unread-some read = rw (shown-first size n ram dir S h, front size n ram dir S h .len)
+
+  pub pad-some : padIn (framesOf size n ram dir) ≡ cond (leb 32768 (getD dir 0 0)) 0 (round4 (getD dir 0 0 % 2048) - getD dir 0 0 % 2048)
+  pad-some = rw (shown-first size n ram dir S h, front size n ram dir S h .len, coming-word (getD dir 0 0))
+
+  pub status-some : (read : ℕ) → rxStatus read (framesOf size n ram dir) ≡ marks (stateOf (getD dir 0 0 / 2048)) + encoded (unread (getD dir 0 0 % 2048) read)
   unfolding rxStatus
   status-some read = rw (shown-first size n ram dir S h, front size n ram dir S h .len)
 
@@ -58,6 +66,12 @@ module _ (size n : ℕ) (ram dir : List ℕ) (S : store.Sound (rxArea size) n ra
       → Turns size ram dir ram′ dir′ (n - 1) (map told (front size n ram dir S h .others))
   unfolding store.newer
   oldest-leaves ram′ dir′ B = lift size ram dir ram′ dir′ (n - 1) _ _ B (rw (front size n ram dir S h .shape))
+
+-- what may be read is small
+pub readable-small : (size n : ℕ) (ram dir : List ℕ) → store.Sound (rxArea size) n ram dir → readable (framesOf size n ram dir) ≤ 2050
+unfolding readable
+readable-small size zero ram dir S = rw (none size zero ram dir refl) (omega arith)
+readable-small size (suc n) ram dir S = omega (arith, readable-most size (suc n) ram dir S (λ e. omega arith))
 
 -- where two bytes may be read there is a frame
 pub readable-there : (size n m : ℕ) (ram dir : List ℕ) → m + 2 ≤ readable (framesOf size n ram dir) → 0 < n

@@ -37,7 +37,7 @@ pub fn settle_early(ram: &[u8], dir: &[u16], size: usize, r: Receive) -> Receive
 }
 
 // The bytes that may be read of the oldest frame.
-pub fn readable_bytes(ram: &[u8], dir: &[u16], size: usize, count: usize) -> u16
+fn readable_bytes(ram: &[u8], dir: &[u16], size: usize, count: usize) -> u16
     requires { ⌜ store.Sound (rxArea size) count (now ram) (now dir) ⌝ }
     ensures { λ o. ⌜ (o ≡ readable (framesOf size count (now (ram .entry)) (now (dir .entry)))) × (o < 2049) ⌝ }
 {

@@ -3,12 +3,14 @@ use mathlib.Core.Path.{_≡_, refl}
 use mathlib.Core.Bool.{Bool, true, false}
 use mathlib.Core.List.{List, [], _∷_}
 use Prim.Native.Nat.{ℕ, zero, suc}
+use lib.IntN.{ℤ, pos, negsuc}
 use lib.ListN.{replicate}
 use Rattle.store.specs.Store.{atNewest, frames, roomOf}
 use Rattle.receive_rules.specs.Frame.{coming, Frame, Rx, isComing, overran, room}
 use Rattle.receive_rules.specs.Update.{withOn, withFailed, withEarly, withThreshold, withReceiver}
 use Rattle.receive_rules.specs.Wire.{passes, begins, wireStart, marked, wireByte, ending, wireEnd}
-use Rattle.receive_rules.specs.Reading.{marks, rxStatus, readable, oldest, dataWord, afterRead, withoutOldest, discard}
+use Rattle.receive_rules.specs.Count.{decoded}
+use Rattle.receive_rules.specs.Reading.{marks, unreadIn, rxStatus, readable, oldest, dataWord, afterRead, withoutOldest, discard}
 use Rattle.receive_rules.specs.Early.{earlyFlag, toldFlag, settleEarly}
 use Rattle.receive_rules.specs.Sound.{inOrder, earlySettled}
 use Rattle.receive_rules.specs.View.{stateOf, soundSide}
@@ -144,6 +146,32 @@ after-31 = refl
 after-32 : status (reads 32 (wireEnd true true (arriving 61))) ≡ 0x07FD
 unfolding reads status side arriving wireEnd ending atNewest overran isComing readable afterRead earlyFlag toldFlag rxStatus marks
 after-32 = refl
+
+-- as signed numbers -1 and -3, since 1 byte and 3 of the pad were read
+count : Rx → ℤ
+count x = unreadIn (x .receiver .read) (x .frames)
+
+unread-31 : count (reads 31 (wireEnd true true (arriving 61))) ≡ negsuc 0
+unfolding reads count side arriving wireEnd ending atNewest overran isComing afterRead earlyFlag toldFlag
+unread-31 = refl
+
+unread-32 : count (reads 32 (wireEnd true true (arriving 61))) ≡ negsuc 2
+unfolding reads count side arriving wireEnd ending atNewest overran isComing afterRead earlyFlag toldFlag
+unread-32 = refl
+
+-- the most, none read, and an empty store
+unread-most : (count (arriving 1792) ≡ pos 1792) × ((count (arriving 60) ≡ pos 60) × (count (side 0 []) ≡ pos 0))
+unfolding count side arriving
+unread-most = (refl, (refl, refl))
+
+-- no pad counts before the end: with one byte of 61 left the read is a failure, and the byte stays unread
+unread-coming : (count (reads 31 (arriving 61)) ≡ pos 1) × (reads 31 (arriving 61) .receiver .failed ≡ true)
+unfolding reads count side arriving isComing afterRead earlyFlag toldFlag
+unread-coming = (refl, refl)
+
+-- the words tell them: 1,792 is the most, 1,793 would be -255
+told-counts : (decoded 0x07FF ≡ negsuc 0) × ((decoded 0x07FD ≡ negsuc 2) × ((decoded 0x8000 ≡ pos 0) × ((decoded 0x4DEB ≡ pos 1515) × ((decoded 0x0700 ≡ pos 1792) × (decoded 0x0701 ≡ negsuc 254)))))
+told-counts = (refl, (refl, (refl, (refl, (refl, refl)))))
 
 -- the 31st word is the last byte and a zero of the pad
 last-word : dataWord (reads 30 (wireEnd true true (arriving 61))) ≡ 7

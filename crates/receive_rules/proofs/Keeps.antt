@@ -1,5 +1,5 @@
 -- Every effect on a sound receive side keeps what soundness asks, but for RX Early, which is settled afterwards. Assumes nothing.
-use mathlib.Core.Path.{_≡_, refl, _∙_}
+use mathlib.Core.Path.{_≡_, refl, sym, _∙_}
 use mathlib.Core.Bool.{Bool, true, false, cond, not, _&&_, _||_}
 use mathlib.Core.List.{List, [], _∷_, _++_}
 use Prim.Native.Nat.{ℕ, _+_, _≤_, _<_}
@@ -16,6 +16,7 @@ use Rattle.receive_rules.specs.Reading.{readable, beyond, afterRead, wit
 use Rattle.receive_rules.specs.Sound.{sized, ended, started, inOrder, earlySettled, kept, sound}
 use Rattle.bits.proofs.Tests.{by-test, both, join, never, of-test}
 use Rattle.receive_rules.proofs.Laws.{room-snoc}
+use Rattle.receive_rules.proofs.Count.{beyond-is}
 use Rattle.receive_rules.proofs.Facts.{Kept, kept-shown, sound-told, sound-shown, sound-kept}
 
 -- ---- one frame
@@ -238,7 +239,7 @@ read-facts size x k =
     (λ e.
     of-test (λ (r : Receiver). Kept size (withReceiver r x)) (beyond x)
     (λ t. record { space = k .space; wire = k .wire; order = k .order; read = k .read; threshold = k .threshold; early = k .early })
-    (λ t. record { space = k .space; wire = k .wire; order = k .order; read = ltb-false _ _ t; threshold = k .threshold; early = k .early }))
+    (λ t. record { space = k .space; wire = k .wire; order = k .order; read = ltb-false _ _ (sym (beyond-is x) ∙ t); threshold = k .threshold; early = k .early }))
 
 -- ---- every effect on a sound receive side keeps it
 

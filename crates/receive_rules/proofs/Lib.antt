@@ -4,6 +4,7 @@ pub mod Laws
 pub mod Facts
 pub mod Oldest
 pub mod Order
+pub mod Count
 pub mod Keeps
 pub mod Settled
 pub mod Steps

@@ -74,18 +74,25 @@ order-busy size (suc k) ram dir S h =
     let sum : roomOf (store.part 0 (suc k) dir) ≡ roomOf ws + round4 (w % 2048) = ap roomOf old ∙ room-append ws (w ∷ []) ∙ ap (λ (x : ℕ). roomOf ws + x) (room-one w) in
     rw (e, old) (order-tip ws w (store.part 0 size ram) (rw (part-length ram size (omega (arith, S .in-ram))) (omega (arith, S .room))))
 
--- every frame has 8 bytes or more, so that there is a place in the directory for each
-sized-room : (n : ℕ) → sized n ≡ true → 8 ≤ round4 n
-sized-room n h = let p = both (leb 8 n) (leb n 1792) h in omega (arith, leb-true 8 n (p .0))
+-- the oldest frame has 8 to 1,792 bytes
+sizes : (f : Frame) (b : Bool) → (sized (length (f .bytes)) && b) ≡ true → (8 ≤ length (f .bytes)) × (length (f .bytes) ≤ 1792)
+sizes f b h =
+    let n : ℕ = length (f .bytes) in
+    let p = both (leb 8 n) (leb n 1792) (both (sized n) b h .0) in
+    (leb-true 8 n (p .0), leb-true n 1792 (p .1))
 
+pub oldest-sized : (storing : Bool) (f : Frame) (fs : List Frame) → inOrder storing (f ∷ fs) ≡ true → (8 ≤ length (f .bytes)) × (length (f .bytes) ≤ 1792)
+unfolding inOrder
+oldest-sized true f [] h = sizes f (isComing (f .state)) h
+oldest-sized false f [] h = sizes f (not (isComing (f .state))) h
+oldest-sized storing f (g ∷ fs) h = sizes f (not (isComing (f .state))) (both (ended f) (inOrder storing (g ∷ fs)) h .0)
+
+-- so that there is a place in the directory for each
 pub order-count : (s : Bool) (fs : List Frame) → inOrder s fs ≡ true → 8 * length fs ≤ room fs
 unfolding inOrder room
 order-count s [] h = omega arith
-order-count true (f ∷ []) h = omega (arith, sized-room (length (f .bytes)) (both (sized (length (f .bytes))) (isComing (f .state)) h .0))
-order-count false (f ∷ []) h = omega (arith, sized-room (length (f .bytes)) (both (sized (length (f .bytes))) (not (isComing (f .state))) h .0))
-order-count s (f ∷ g ∷ fs) h =
-    let p = both (ended f) (inOrder s (g ∷ fs)) h in
-    omega (arith, sized-room (length (f .bytes)) (both (sized (length (f .bytes))) (not (isComing (f .state))) (p .0) .0), order-count s (g ∷ fs) (p .1))
+order-count s (f ∷ []) h = omega (arith, oldest-sized s f [] h .0)
+order-count s (f ∷ g ∷ fs) h = omega (arith, oldest-sized s f (g ∷ fs) h .0, order-count s (g ∷ fs) (both (ended f) (inOrder s (g ∷ fs)) h .1))
 
 count-frames : (ws m : List ℕ) → length (map told (store.frames ws m)) ≡ length ws
 unfolding store.frames

@@ -12,6 +12,7 @@ use Rattle.receive_rules.specs.Update.{withRead, withReceiver}
 use Rattle.receive_rules.specs.Reading.{readable, oldest, dataWord, afterRead}
 use Rattle.receive_rules.specs.Wire.{fresh, begins, wireStart, longer, fits, takes, wireByte}
 use Rattle.receive_rules.specs.Early.{settleEarly}
+use Rattle.receive_rules.proofs.Count.{beyond-is}
 use Rattle.receive_rules.proofs.Laws.{room-snoc}
 use Rattle.receive_rules.proofs.Taking.{takes-longer}
 
@@ -51,8 +52,8 @@ start-stored size first x on space = rw (on, le-leb _ size space) (record { wire
 module _ (x : Rx) (good : x .receiver .failed ≡ false) (space : x .receiver .read + 2 ≤ readable (x .frames)) where
   pub word-read : dataWord x ≡ getD (oldest (x .frames)) (x .receiver .read) 0 + 256 * getD (oldest (x .frames)) (x .receiver .read + 1) 0
   unfolding dataWord
-  word-read = rw (good, le-ltb _ _ space)
+  word-read = rw (good, beyond-is x, le-ltb _ _ space)
 
   pub read-moves : afterRead x ≡ withReceiver (withRead (x .receiver .read + 2) (x .receiver)) x
   unfolding afterRead
-  read-moves = rw (good, le-ltb _ _ space)
+  read-moves = rw (good, beyond-is x, le-ltb _ _ space)

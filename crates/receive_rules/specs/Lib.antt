@@ -3,6 +3,7 @@
 pub mod Frame
 pub mod Update
 pub mod Wire
+pub mod Count
 pub mod Reading
 pub mod Early
 pub mod Sound

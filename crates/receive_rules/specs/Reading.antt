@@ -1,10 +1,13 @@
 -- What the host reads of the receive side, and the commands that drop frames. Assumes nothing.
 use mathlib.Core.List.{List, [], _∷_}
 use mathlib.Core.Bool.{Bool, true, false, cond, not, _||_}
-use Prim.Native.Nat.{ℕ, _+_, _*_, _-_, _%_}
+use Prim.Native.Nat.{ℕ, _+_, _*_, _-_}
 use lib.ListN.{length, getD}
-use lib.Dec.{ltb, eqb}
+use lib.Dec.{eqb}
+use lib.IntN.{ℤ, pos, _+ℤ_}
+use lib.Signed.{ltZ}
 use Rattle.store.specs.Store.{round4}
+use Rattle.receive_rules.specs.Count.{unread, encoded}
 use Rattle.receive_rules.specs.Frame.{State, coming, whole, damaged, Frame, Rx, isComing, room}
 use Rattle.receive_rules.specs.Update.{withFailed, withRead, withReceiver}
 
@@ -16,14 +19,15 @@ marks (coming o) = 32768
 marks whole = 0
 marks (damaged k) = 16384 + k * 2048
 
--- Bits 10-0: stored bytes less bytes read, two's complement.
-abbrev pub unread : ℕ → ℕ → ℕ
-unread stored read = (stored + 2048 - read) % 2048
+-- The unread bytes of the oldest frame. Empty store: 0.
+abbrev pub unreadIn : ℕ → List Frame → ℤ
+unreadIn read [] = pos 0
+unreadIn read (f ∷ fs) = unread (length (f .bytes)) read
 
 -- RX Status shows the oldest frame. Empty store: 8000h.
 unfoldable pub rxStatus : ℕ → List Frame → ℕ
 rxStatus read [] = 32768
-rxStatus read (f ∷ fs) = marks (f .state) + unread (length (f .bytes)) read
+rxStatus read (f ∷ fs) = marks (f .state) + encoded (unreadIn read (f ∷ fs))
 
 -- RX Complete stands while the oldest frame is complete.
 unfoldable pub complete : List Frame → Bool
@@ -45,9 +49,18 @@ unfoldable pub oldest : List Frame → List ℕ
 oldest [] = []
 oldest (f ∷ fs) = f .bytes
 
--- Reading a byte not yet come, or past the rounded length, is a receive failure.
+-- The pad of the oldest frame, up to a length rounded to 4; none until its end.
+abbrev pub padIn : List Frame → ℕ
+padIn [] = 0
+padIn (f ∷ fs) = cond (isComing (f .state)) 0 (round4 (length (f .bytes)) - length (f .bytes))
+
+-- The bytes left to read: the unread ones and the pad.
+abbrev pub leftIn : Rx → ℤ
+leftIn x = unreadIn (x .receiver .read) (x .frames) +ℤ pos (padIn (x .frames))
+
+-- A data read with fewer than two bytes left is a receive failure.
 abbrev pub beyond : Rx → Bool
-beyond x = ltb (readable (x .frames)) (x .receiver .read + 2)
+beyond x = ltZ (leftIn x) (pos 2)
 
 -- A data read takes a word, low byte first; pad reads 0. While a failure stands reads give 0.
 unfoldable pub dataWord : Rx → ℕ

@@ -1,4 +1,4 @@
-// The card by value: its registers in groups, the Status word, the interrupt line, settle, power-on, and the test of its soundness.
+// The card by value: its registers in groups, the Status word, the interrupt line, RX Status and the unread bytes, settle, power-on, and the test of its soundness.
 ghost use mathlib.Core.Path.{_≡_};
 ghost use mathlib.Core.Bool.{true};
 ghost use mathlib.Core.List.{List};
@@ -10,7 +10,7 @@ ghost use Rattle.receive_rules.specs.View as rx;
 ghost use Rattle.card_rules.specs.Status.{shows, statusOf, statusWord, flags as flagsOf, rises as risesOf, interrupting};
 ghost use Rattle.card_rules.specs.Line.{isLine, interruptLine};
 ghost use Rattle.card_rules.specs.Settle.{settle as settleOf};
-ghost use Rattle.receive_rules.specs.Reading.{rxEmpty};
+ghost use Rattle.receive_rules.specs.Reading.{rxStatus, unreadIn, rxEmpty};
 ghost use Rattle.card_rules.specs.Power.{powerOn, reset as resetOf};
 ghost use Rattle.card_rules.specs.Sound.{selectSound, kept};
 ghost use Rattle.card_rules.specs.View.{rxSizeOf, view, Held, Sound, Blank, Does, SettlesSides, Stands, soundCard};
@@ -232,6 +232,22 @@ pub fn status_word(ram: &[u8], dir: &[u16], c: Card) -> u16
     ensures { λ r. ⌜ r ≡ statusWord (view c (now (ram .entry)) (now (dir .entry))) ⌝ }
 {
     status_of(c.select, flags_of(ram, dir, c))
+}
+
+// RX Status.
+pub fn rx_status(ram: &[u8], dir: &[u16], c: Card) -> u16
+    requires { ⌜ Sound c (now ram) (now dir) ⌝ }
+    ensures { λ r. ⌜ r ≡ rxStatus (c .receive .receiver .read) (view c (now (ram .entry)) (now (dir .entry)) .rx .frames) ⌝ }
+{
+    receive::rx_status(ram, dir, rx_size(c.config.second), c.receive)
+}
+
+// The unread bytes of the oldest frame.
+pub fn unread(ram: &[u8], dir: &[u16], c: Card) -> i16
+    requires { ⌜ Sound c (now ram) (now dir) ⌝ }
+    ensures { λ r. ⌜ r ≡ unreadIn (c .receive .receiver .read) (view c (now (ram .entry)) (now (dir .entry)) .rx .frames) ⌝ }
+{
+    receive::unread(ram, dir, rx_size(c.config.second), c.receive)
 }
 
 // RX Early and TX Available, at the end of every step.

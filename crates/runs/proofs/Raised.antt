@@ -4,20 +4,21 @@ use mathlib.Core.Bool.{Bool, true, false, cond, not, _&&_}
 use mathlib.Core.List.{List, [], _∷_}
 use Prim.Native.Nat.{ℕ, _+_, _*_, _-_, _/_, _%_, _≤_}
 use native.Mathlib.Omega.{arith}
-use borrow.Author.Tests.{leb-true, le-leb, ltb-true, eqb-true, eq-eqb}
+use borrow.Author.Tests.{le-leb, ltb-true, eqb-true}
 use lib.Dec.{ltb, leb, eqb}
 use lib.ListN.{length}
 use Rattle.bits.specs.Bits.{has}
 use Rattle.bits.proofs.Tests.{both, of-test, by-test, never}
 use Rattle.port_rules.specs.declared.IdState.{IdState}
 use Rattle.receive_rules.specs.declared.Receiver.{Receiver}
-use Rattle.receive_rules.specs.Frame.{Frame, Rx, isComing}
+use Rattle.receive_rules.specs.Frame.{Frame, Rx}
 use Rattle.receive_rules.specs.Update.{withFailed, withThreshold, withRead, withReceiver}
 use Rattle.receive_rules.specs.Wire as wire
 use Rattle.receive_rules.specs.Reading as reading
 use Rattle.receive_rules.specs.Reading.{beyond, afterRead, withoutOldest, dataWord}
 use Rattle.receive_rules.specs.Early.{earlyFlag, toldFlag}
-use Rattle.receive_rules.specs.Sound.{sized, inOrder}
+use Rattle.receive_rules.specs.Sound.{inOrder}
+use Rattle.receive_rules.proofs.Order.{oldest-sized}
 use Rattle.receive_rules.proofs.Facts.{kept-told}
 use Rattle.card_rules.specs.Adapter.{Adapter}
 use Rattle.card_rules.specs.Update.{withLines, withRx, linesLow}
@@ -68,17 +69,6 @@ reached t n h =
     of-test (λ (m : ℕ). leb m n ≡ leb t n) (ltb t 8)
     (λ y. le-leb 8 n h ∙ sym (le-leb t n (omega (arith, ltb-true t 8 y)))) (λ _. refl)
 
-eight : (f : Frame) (t : Bool) → (sized (length (f .bytes)) && t) ≡ true → 8 ≤ length (f .bytes)
-eight f t h =
-    let n : ℕ = length (f .bytes) in
-    leb-true 8 n (both (leb 8 n) (leb n 1792) (both (sized n) t h .0) .0)
-
-oldest-sized : (storing : Bool) (f : Frame) (fs : List Frame) → inOrder storing (f ∷ fs) ≡ true → 8 ≤ length (f .bytes)
-unfolding inOrder
-oldest-sized true f [] h = eight f (isComing (f .state)) h
-oldest-sized false f [] h = eight f (not (isComing (f .state))) h
-oldest-sized storing f (g ∷ fs) h = eight f (not (isComing (f .state))) (both (sized (length (f .bytes)) && not (isComing (f .state))) (inOrder storing (g ∷ fs)) h .0)
-
 module _ (r : Receiver) where
   abbrev lifted : Receiver
   lifted = withThreshold (earlyThreshold (r .threshold)) r
@@ -86,7 +76,7 @@ module _ (r : Receiver) where
   early-same : (storing : Bool) (fs : List Frame) → inOrder storing fs ≡ true → (earlyFlag lifted fs ≡ earlyFlag r fs) × (toldFlag lifted fs ≡ toldFlag r fs)
   unfolding earlyFlag toldFlag
   early-same storing [] h = (refl, refl)
-  early-same storing (f ∷ fs) h = rw (reached (r .threshold) (length (f .bytes)) (oldest-sized storing f fs h)) (refl, refl)
+  early-same storing (f ∷ fs) h = rw (reached (r .threshold) (length (f .bytes)) (oldest-sized storing f fs h .0)) (refl, refl)
 
 settle-raised : (a : Adapter) → kept (raised a) ≡ true → settle (raised a) ≡ raised (settle a)
 unfolding settle

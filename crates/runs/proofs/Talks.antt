@@ -10,7 +10,7 @@ use Rattle.store.specs.Store.{round4}
 use Rattle.card_rules.specs.Access.{Access, ReadWord, ReadByte, WriteWord, WriteByte}
 use Rattle.driver_rules.specs.declared.Driver.{Driver}
 use Rattle.driver_rules.specs.Driver.{withError}
-use Rattle.driver_rules.specs.Registers.{unfit, txComplete, rxComplete, bad}
+use Rattle.driver_rules.specs.Registers.{unfit, txComplete, rxComplete, bad, lengthIn}
 use Rattle.driver_rules.specs.Talk.{Talk, done, ask, readWords, writeWords}
 use Rattle.driver_rules.specs.Packet.{outside, packetWords}
 use Rattle.driver_rules.specs.Send.{Sending, sendTalk}
@@ -97,7 +97,7 @@ module _ (F : Access → Type 0) (f : Accesses F) (d : Driver) where
 
     each-receive : (n : ℕ) → Serves (receiveTalk n d)
     each-receive zero = ends refl
-    each-receive (suc n) = asks (f .oldest) (λ rx. of-cond Serves (bad rx) (each-drop n) (each-fetch n (rx % 2048)))
+    each-receive (suc n) = asks (f .oldest) (λ rx. of-cond Serves (bad rx) (each-drop n) (each-fetch n (lengthIn rx)))
 
     each-drop : (n : ℕ) → Serves (dropTalk n d)
     each-drop zero = ends refl

@@ -41,6 +41,7 @@ pub fn kind(key: u64) -> Kind
         0x656E64 => Kind::End, // end
         0x73656E74 => Kind::Sent, // sent
         0x636F6C6C69646564 => Kind::Collided, // collided
+        0x7278 => Kind::RxStatus, // rx
         0x696477 => Kind::IdWrite, // idw
         0x696472 => Kind::IdRead, // idr
         0x736561726368 => Kind::Search, // search

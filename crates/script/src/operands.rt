@@ -260,6 +260,7 @@ pub fn line(kind: Kind, count: u8, one: &[u8], two: &[u8], three: &[u8], bytes: 
         | Kind::End
         | Kind::Sent
         | Kind::Collided
+        | Kind::RxStatus
         | Kind::IdWrite
         | Kind::IdRead
         | Kind::Search
@@ -281,6 +282,7 @@ fn numbers(kind: Kind, count: u8, one: &[u8], two: &[u8], three: &[u8]) -> Line
         Kind::End => flags(count, one),
         Kind::Sent => plain(kind, count),
         Kind::Collided => plain(kind, count),
+        Kind::RxStatus => plain(kind, count),
         Kind::IdWrite => two_numbers(kind, 255, count, one, two),
         Kind::IdRead => one_number(kind, 16, count, one),
         Kind::Search => one_number(kind, 16, count, one),

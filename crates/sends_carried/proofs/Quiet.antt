@@ -14,7 +14,7 @@ use Rattle.card_rules.specs.Access.{Access, ReadWord, ReadByte, WriteWord, Writ
 use Rattle.card_rules.proofs.Active.{woken}
 use Rattle.driver_rules.specs.declared.Driver.{Driver}
 use Rattle.driver_rules.proofs.Runs.{asleep-run}
-use Rattle.driver_rules.specs.Registers.{unfit, txComplete, rxComplete, bad}
+use Rattle.driver_rules.specs.Registers.{unfit, txComplete, rxComplete, bad, lengthIn}
 use Rattle.driver_rules.specs.Talk.{Talk, done, ask, run, readWords}
 use Rattle.driver_rules.specs.Open.{openTalk}
 use Rattle.driver_rules.specs.Items.{isError, reportTalk, idleTalk, fetchTalk, wordsIn}
@@ -111,7 +111,7 @@ mutual
 
   receive-quiet : (left : ℕ) (d : Driver) → Quiet (receiveTalk left d)
   receive-quiet zero d = quiet-done _
-  receive-quiet (suc left) d = quiet-ask (ReadWord 8) _ (word-read 8) (λ rx. of-cond Quiet (bad rx) (drop-quiet left d) (fetch-quiet left d (rx % 2048)))
+  receive-quiet (suc left) d = quiet-ask (ReadWord 8) _ (word-read 8) (λ rx. of-cond Quiet (bad rx) (drop-quiet left d) (fetch-quiet left d (lengthIn rx)))
 
   drop-quiet : (left : ℕ) (d : Driver) → Quiet (dropTalk left d)
   drop-quiet zero d = quiet-done _

@@ -82,6 +82,6 @@ fn receive(
         }
         return look(ram, dir, dropped, d, ahead, frame, left - 2, turns - 1);
     }
-    let n = (rx % judge::sizes::RAW_COUNT) as usize;
+    let n = judge::length(rx);
     items::fetch(ram, dir, c, d, ahead, frame, left - 1, n)
 }

@@ -3,21 +3,13 @@ ghost use mathlib.Core.Path.{_≡_};
 ghost use mathlib.Core.List.{List};
 ghost use Prim.Native.Nat.{ℕ, _+_, _*_, _-_, _%_, _≤_, _<_};
 ghost use Rattle.bits.specs.Bits.{has, weigh};
-ghost use Rattle.receive_rules.specs.Reading.{rxStatus, rxFree};
+ghost use Rattle.receive_rules.specs.Reading.{rxFree};
 ghost use Rattle.transmit_rules.specs.Outcome.{top};
 ghost use Rattle.transmit_rules.specs.OutcomesView.{Stacked, stack};
 ghost use Rattle.card_rules.specs.Room.{txFree};
 ghost use Rattle.card_rules.specs.View.{rxSizeOf, view, Sound};
 ghost use Rattle.card_rules.specs.Read.{window0, window1, window2, window3, window5, wordAt};
 use card_rules::Card;
-
-// RX Status.
-fn rx_status(ram: &[u8], dir: &[u16], c: Card) -> u16
-    requires { ⌜ Sound c (now ram) (now dir) ⌝ }
-    ensures { λ r. ⌜ r ≡ rxStatus (c .receive .receiver .read) (view c (now (ram .entry)) (now (dir .entry)) .rx .frames) ⌝ }
-{
-    receive::rx_status(ram, dir, regs::rx_size(c.config.second), c.receive)
-}
 
 // TX Status in the high byte of a word.
 fn tx_status(c: Card) -> u16
@@ -65,7 +57,7 @@ fn read_1(ram: &[u8], dir: &[u16], c: Card, o: u16) -> u16
     ensures { λ r. ⌜ r ≡ window1 o (view c (now (ram .entry)) (now (dir .entry))) ⌝ }
 {
     match o {
-        0x08 => rx_status(ram, dir, c),
+        0x08 => regs::rx_status(ram, dir, c),
         0x0a => tx_status(c),
         0x0c => tx_free(ram, dir, c) / 4 * 4,
         _ => 0,

@@ -107,6 +107,7 @@ impl Bench {
             (b"rb", [o]) => answer(own.read_byte(word(o)?).map(|value| format!("= {value:02X}"))),
             (b"ww", [o, v]) => done(own.write_word(word(o)?, word(v)?)),
             (b"wb", [o, v]) => done(own.write_byte(word(o)?, byte(v)?)),
+            (b"rx", []) => answer(own.rx_status().map(|(word, unread)| format!("rx {word:04X} unread {unread}"))),
             (b"start", [text]) => done(own.wire_start(bytes(text)?.try_into().ok()?)),
             (b"bytes", [text]) => done(bytes(text)?.into_iter().try_for_each(|byte| own.wire_byte(byte))),
             (b"end", [[check, alignment]]) => done(own.wire_end(flag(*check)?, flag(*alignment)?)),
@@ -186,10 +187,10 @@ impl Bench {
     /// The answer to a line without its newline; none to a line that says nothing.
     fn line(&mut self, line: &[u8]) -> Option<String> {
         let not_understood = || Some("what?".to_string());
+        let line = line.strip_suffix(b"\r").unwrap_or(line);
         if line.len() > LONGEST_LINE {
             return not_understood();
         }
-        let line = line.strip_suffix(b"\r").unwrap_or(line);
         let said = line.split(|&character| character == b'#').next().unwrap_or(line);
         let blank = |&character: &u8| character == b' ' || character == b'\t';
         let fields: Vec<&[u8]> = said.split(blank).filter(|field| !field.is_empty()).collect();

@@ -22,6 +22,7 @@ use Rattle.items.proofs.fetching.discard.Reads as discard-reads
 use Rattle.items.proofs.fetching.fetch.Reads as fetch-reads
 use Rattle.items.proofs.reporting.report.Reads as report-reads
 use Rattle.judge.proofs.is_bad.Reads as is-bad-reads
+use Rattle.judge.proofs.length.Reads as length-reads
 use Rattle.steps.proofs.read_word.Reads as read-word-reads
 use Rattle.judge.proofs.is_unfit.Reads as is-unfit-reads
 use Rattle.judge.proofs.is_tx_complete.Reads as is-tx-reads
@@ -52,7 +53,7 @@ abbrev look-calls : ℕ → look-lts.Claims
 look-calls t = (short-reads.Asked, short-reads.Learnt, read-word-reads.Asked, read-word-reads.Learnt, is-unfit-reads.Asked, is-unfit-reads.Learnt, ended-reads.Asked, ended-reads.Learnt, is-tx-reads.Asked, is-tx-reads.Learnt, report-reads.Asked, report-reads.Learnt, is-rx-reads.Asked, is-rx-reads.Learnt, receive-below t, receive.Post, idle-reads.Asked, idle-reads.Learnt)
 
 abbrev receive-calls : ℕ → receive-lts.Claims
-receive-calls t = (short-reads.Asked, short-reads.Learnt, read-word-reads.Asked, read-word-reads.Learnt, is-bad-reads.Asked, is-bad-reads.Learnt, discard-reads.Asked, discard-reads.Learnt, look-below t, look.Post, fetch-reads.Asked, fetch-reads.Learnt)
+receive-calls t = (short-reads.Asked, short-reads.Learnt, read-word-reads.Asked, read-word-reads.Learnt, is-bad-reads.Asked, is-bad-reads.Learnt, discard-reads.Asked, discard-reads.Learnt, look-below t, look.Post, length-reads.Asked, length-reads.Learnt, fetch-reads.Asked, fetch-reads.Learnt)
 
 look-short-requires : (t : ℕ) → look-lts.Need-short-requires (look-calls t) (look-at t) look.Post
 look-short-requires t c κs = search needs
@@ -201,20 +202,20 @@ receive-same-length-8 t c = search needs
 receive-returns-4 : (t : ℕ) → receive-lts.Need-returns-4 (receive-calls t) (receive-at t) receive.Post
 receive-returns-4 t c = let e = unmoved.as-came 8 _ _ _ refl (c .before .before .before .before .before .before .before .before .before .before .before .before .before .before .before .before .before .before .before .before .before .before .before .before .before .before .before .before .before .before .before .before .pre .1 .sound) (c .before .before .before .before .before .before .before .before .before .before .before .before .before .before .before .before .before .before .before .before .before .before .before .before .read-word .ensures) in let w = sym (c .before .before .before .before .before .before .before .before .before .before .before .before .before .before .before .before .before .before .before .before .before .before .before .is-bad .ensures) ∙ c .before .before .before .before .before .before .before .before .before .before .before .before .before .before .before .before .before .before .before .before .before .before .if2 .taken in let x = wrote _ (c .before .before .before .before .before .before .before .before .before .before .before .before .before .before .before .before .before .before .discard .ensures) in (ways.receive-again (c .before .before .before .before .before .before .before .before .before .before .before .before .before .before .before .before .before .before .before .before .before .before .before .before .before .before .before .before .before .before .before .before .args .left) _ _ _ _ (c .before .before .before .before .before .before .before .before .before .before .before .before .before .before .before .before .before .before .before .before .before .before .before .before .before .before .before .if1 .left) _ _ e w (c .before .before .before .before .before .before .before .before .before .before .before .before .before .before .before .before .before .before .before .before .before .if3 .left) _ _ x _ _ _ _ (c .before .before .before .before .before .before .before .before .look .ensures .0), (c .before .before .before .before .before .before .before .before .look .ensures .1 .0, unmoved.after-discard _ _ _ _ _ _ _ _ (ways.dropped (c .before .before .before .before .before .before .before .before .before .before .before .before .before .before .before .before .before .before .before .before .before .before .before .before .before .before .before .before .before .before .before .before .args .left) _ _ [] [] (c .before .before .before .before .before .before .before .before .before .before .before .before .before .before .before .before .before .before .before .before .before .before .before .before .before .before .before .if1 .left) _ _ e w (c .before .before .before .before .before .before .before .before .before .before .before .before .before .before .before .before .before .before .before .before .before .if3 .left) _ _ x)))
 
-receive-cast-n : (t : ℕ) → receive-lts.Need-cast-n (receive-calls t) (receive-at t) receive.Post
-receive-cast-n t c = search needs
+receive-length-requires : (t : ℕ) → receive-lts.Need-length-requires (receive-calls t) (receive-at t) receive.Post
+receive-length-requires t c κs = search needs
 
 receive-sub-fetch : (t : ℕ) → receive-lts.Need-sub-fetch (receive-calls t) (receive-at t) receive.Post
-receive-sub-fetch t c = omega (arith, c .before .before .before .before .before .before .before .before .before .if1 .left)
+receive-sub-fetch t c = omega (arith, c .before .before .before .before .before .before .before .before .before .before .if1 .left)
 
 receive-fetch-requires : (t : ℕ) → receive-lts.Need-fetch-requires (receive-calls t) (receive-at t) receive.Post
-receive-fetch-requires t c κs = (record { sound = c .before .before .before .before .before .before .before .before .before .before .before .before .before .before .pre .1 .sound; look = c .before .before .before .before .before .before .before .before .before .before .before .before .before .before .pre .1 .look; frame = c .before .before .before .before .before .before .before .before .before .before .before .before .before .before .pre .1 .frame }, ways.good-size _ (sym (c .before .before .before .before .before .is-bad .ensures) ∙ c .before .before .before .before .if2 .left))
+receive-fetch-requires t c κs = (record { sound = c .before .before .before .before .before .before .before .before .before .before .before .before .before .before .before .pre .1 .sound; look = c .before .before .before .before .before .before .before .before .before .before .before .before .before .before .before .pre .1 .look; frame = c .before .before .before .before .before .before .before .before .before .before .before .before .before .before .before .pre .1 .frame }, ways.good-size (c .before .before .before .before .before .before .before .read-word .result .value) _ (sym (c .before .before .before .before .before .before .is-bad .ensures) ∙ c .before .before .before .before .before .if2 .left) (c .before .before .before .before .length .ensures))
 
 receive-same-length-9 : (t : ℕ) → receive-lts.Need-same-length-9 (receive-calls t) (receive-at t) receive.Post
-receive-same-length-9 t c = ram-kept (c .before .before .before .before .before .before .before .before .fetch .ensures .1 .0) (c .before .before .before .before .before .before .before .before .before .before .before .before .before .before .before .before .before .before .before .before .before .before .before .pre .1 .sound)
+receive-same-length-9 t c = ram-kept (c .before .before .before .before .before .before .before .before .fetch .ensures .1 .0) (c .before .before .before .before .before .before .before .before .before .before .before .before .before .before .before .before .before .before .before .before .before .before .before .before .pre .1 .sound)
 
 receive-same-length-10 : (t : ℕ) → receive-lts.Need-same-length-10 (receive-calls t) (receive-at t) receive.Post
-receive-same-length-10 t c = dir-kept (c .before .before .before .before .before .before .before .before .fetch .ensures .1 .0) (c .before .before .before .before .before .before .before .before .before .before .before .before .before .before .before .before .before .before .before .before .before .before .before .pre .1 .sound)
+receive-same-length-10 t c = dir-kept (c .before .before .before .before .before .before .before .before .fetch .ensures .1 .0) (c .before .before .before .before .before .before .before .before .before .before .before .before .before .before .before .before .before .before .before .before .before .before .before .before .pre .1 .sound)
 
 receive-same-length-11 : (t : ℕ) → receive-lts.Need-same-length-11 (receive-calls t) (receive-at t) receive.Post
 receive-same-length-11 t c = search needs
@@ -223,7 +224,7 @@ receive-same-length-12 : (t : ℕ) → receive-lts.Need-same-length-12 (receive-
 receive-same-length-12 t c = search needs
 
 receive-returns-5 : (t : ℕ) → receive-lts.Need-returns-5 (receive-calls t) (receive-at t) receive.Post
-receive-returns-5 t c = let e = unmoved.as-came 8 _ _ _ refl (c .before .before .before .before .before .before .before .before .before .before .before .before .before .before .before .before .before .before .before .before .before .before .before .pre .1 .sound) (c .before .before .before .before .before .before .before .before .before .before .before .before .before .before .before .read-word .ensures) in let w = sym (c .before .before .before .before .before .before .before .before .before .before .before .before .before .before .is-bad .ensures) ∙ c .before .before .before .before .before .before .before .before .before .before .before .before .before .if2 .left in (ways.receive-fetch (c .before .before .before .before .before .before .before .before .before .before .before .before .before .before .before .before .before .before .before .before .before .before .before .args .left) _ _ _ _ (c .before .before .before .before .before .before .before .before .before .before .before .before .before .before .before .before .before .before .if1 .left) _ _ e _ _ _ _ w (c .before .before .before .before .before .before .before .before .fetch .ensures .0), (c .before .before .before .before .before .before .before .before .fetch .ensures .1 .0, unmoved.after-read _ _ _ _ _ _ _ _ 8 (ways.receives-good _ _ _ _ (c .before .before .before .before .before .before .before .before .before .before .before .before .before .before .before .before .before .before .before .before .before .before .before .args .left) (c .before .before .before .before .before .before .before .before .before .before .before .before .before .before .before .before .before .before .if1 .left) e w) (c .before .before .before .before .before .before .before .before .fetch .ensures .1 .1)))
+receive-returns-5 t c = let e = unmoved.as-came 8 _ _ _ refl (c .before .before .before .before .before .before .before .before .before .before .before .before .before .before .before .before .before .before .before .before .before .before .before .before .pre .1 .sound) (c .before .before .before .before .before .before .before .before .before .before .before .before .before .before .before .before .read-word .ensures) in let w = sym (c .before .before .before .before .before .before .before .before .before .before .before .before .before .before .before .is-bad .ensures) ∙ c .before .before .before .before .before .before .before .before .before .before .before .before .before .before .if2 .left in let n = c .before .before .before .before .before .before .before .before .before .before .before .before .before .length .ensures in (ways.receive-fetch (c .before .before .before .before .before .before .before .before .before .before .before .before .before .before .before .before .before .before .before .before .before .before .before .before .args .left) _ _ _ _ (c .before .before .before .before .before .before .before .before .before .before .before .before .before .before .before .before .before .before .before .if1 .left) _ _ e _ _ _ _ _ w n (c .before .before .before .before .before .before .before .before .fetch .ensures .0), (c .before .before .before .before .before .before .before .before .fetch .ensures .1 .0, unmoved.after-read _ _ _ _ _ _ _ _ 8 (ways.receives-good _ _ _ _ (c .before .before .before .before .before .before .before .before .before .before .before .before .before .before .before .before .before .before .before .before .before .before .before .before .args .left) _ (c .before .before .before .before .before .before .before .before .before .before .before .before .before .before .before .before .before .before .before .if1 .left) e w n) (c .before .before .before .before .before .before .before .before .fetch .ensures .1 .1)))
 
 pub +look+receive-spec : {M : Type 1} → statement M
 +look+receive-spec = close μ-look μ-receive (λ t. look-lts.spec (look-calls t)
@@ -281,7 +282,7 @@ pub +look+receive-spec : {M : Type 1} → statement M
     (receive-same-length-7 t)
     (receive-same-length-8 t)
     (receive-returns-4 t)
-    (receive-cast-n t)
+    (receive-length-requires t)
     (receive-sub-fetch t)
     (receive-fetch-requires t)
     (receive-same-length-9 t)

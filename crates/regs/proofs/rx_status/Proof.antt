@@ -1,4 +1,4 @@
--- `window_read::rx_status` meets its contract: the size is the configuration's. Assumes nothing.
+-- `regs::rx_status` meets its contract: the size is the configuration's. Assumes nothing.
 use borrow.Author.Needs.{needs}
 use mathlib.Core.Path.{ap, _∙_}
 use Prim.Native.Nat.{ℕ}
@@ -6,8 +6,8 @@ use Rattle.receive_rules.specs.Reading.{rxStatus}
 use Rattle.receive_rules.specs.View.{framesOf}
 use Rattle.card_rules.specs.View.{view}
 use Rattle.card_rules.proofs.Sides.{rx-sound-at}
-use Rattle.window_read.proofs.rx_status.Statement.{statement}
-use Rattle.window_read.proofs.rx_status.Tie as tie
+use Rattle.regs.proofs.rx_status.Statement.{statement}
+use Rattle.regs.proofs.rx_status.Tie as tie
 
 rx-status-requires : tie.Need-rx-status-requires
 rx-status-requires c κs = rx-sound-at _ _ _ _ (c .rx-size .ensures .0) (c .before .before .before .pre)

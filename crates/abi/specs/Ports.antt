@@ -3,13 +3,13 @@ use Rattle.std.specs.Prelude.{◌≡◌, ℕ}
 use Rattle.port_rules.specs.declared.Bus.{Bus}
 use Rattle.port_rules.specs.declared.AfterSearch.{AfterSearch}
 use Rattle.port_rules.specs.declared.AfterActivation.{AfterActivation}
-use Rattle.port_rules.specs.Contracts as contract
+use Rattle.port_rules.specs.PortContracts as contract
 use Rattle.codes.specs.declared.ports.BusFound.{BusFound}
 use Rattle.codes.specs.declared.ports.BusDone.{BusDone}
-use Rattle.codes.specs.Codes.{codedFound, codedActivated}
+use Rattle.codes.specs.Codes.{coded_found, coded_activated}
 
 abbrev pub Finds : Bus → ℕ → BusFound → Type 0
-Finds b port r = (x : AfterSearch) × ((r ≡ codedFound x) × contract.find-cards b port x)
+Finds b port r = (x : AfterSearch) × ((r ≡ coded_found x) × contract.FindCards b port x)
 
 abbrev pub Activates : Bus → ℕ → ℕ → ℕ → BusDone → Type 0
-Activates b port tag base r = (x : AfterActivation) × ((r ≡ codedActivated x) × contract.activate-card b port tag base x)
+Activates b port tag base r = (x : AfterActivation) × ((r ≡ coded_activated x) × contract.ActivateCard b port tag base x)

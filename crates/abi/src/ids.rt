@@ -1,6 +1,6 @@
 // One card on the ID port. The host's reads are a wired-and over all cards: each tells what it drives, and hears what the bus carried.
 ghost use Rattle.std.specs.Prelude.{◌≡◌, true};
-ghost use Rattle.port_rules.specs.Sound.{idSound};
+ghost use Rattle.port_rules.specs.Sound.{id_sound};
 ghost use Rattle.abi.specs.Ids as says;
 
 use card_rules::Card;
@@ -17,7 +17,7 @@ pub struct CardBit {
 
 // The ID state that a step at the port left is seated, unless the call is refused.
 fn seated(ram: &[u8; 8192], dir: &[u16; 1110], c: Card, port: u16, i: IdState) -> CardDone
-    requires { idSound c.id ≡ true → idSound i ≡ true }
+    requires { id_sound c.id ≡ true → id_sound i ≡ true }
     ensures { says.Seated (says.refusal c ram.now dir.now port) i c ram.now dir.now result }
 {
     if !regs::is_sound(ram, dir, c) {

@@ -1,14 +1,14 @@
 // The check of an EEPROM image.
 ghost use Rattle.std.specs.Prelude.{◌≡◌};
-ghost use Rattle.image_rules.specs.Image.{checkOf};
-ghost use Rattle.codes.specs.Codes.{codedCheck};
+ghost use Rattle.image_rules.specs.Image.{check_of};
+ghost use Rattle.codes.specs.Codes.{coded_check};
 
 use codes::ImageChecked;
 
 // Checks an image of any length.
 #[unsafe(no_mangle)]
 pub extern "C" fn seamtrout_image_checked(image: &[u8]) -> ImageChecked
-    ensures { result ≡ codedCheck (checkOf image.now) }
+    ensures { result ≡ coded_check (check_of image.now) }
 {
     let x = image_check::check(image);
     codes::coded_check(x)

@@ -2,38 +2,38 @@
 use mathlib.Core.Path.{◌≡◌, refl}
 use mathlib.Core.List.{[], ◌∷◌}
 use lib.IntN.{pos, negsuc}
-use Rattle.bench_rules.specs.Text.{digitOf, placesText}
+use Rattle.bench_rules.specs.Text.{digit_of, places_text}
 use Rattle.bench_rules.specs.declared.Reply.TheVariants as reply
-use Rattle.bench_rules.specs.Answers.{signedText, addressesText, line_of}
+use Rattle.bench_rules.specs.Answers.{signed_text, addresses_text, line_of}
 
 -- `found 1 accesses 875 0020AFC412E5`: one card, 258 + 309 + 308 accesses
 one_found : line_of (reply.Found 1 875) [] (0x0020AFC412E5 ∷ [])
     ≡ 0x66 ∷ 0x6F ∷ 0x75 ∷ 0x6E ∷ 0x64 ∷ 0x20 ∷ 0x31 ∷ 0x20
     ∷ 0x61 ∷ 0x63 ∷ 0x63 ∷ 0x65 ∷ 0x73 ∷ 0x73 ∷ 0x65 ∷ 0x73 ∷ 0x20 ∷ 0x38 ∷ 0x37 ∷ 0x35 ∷ 0x20
     ∷ 0x30 ∷ 0x30 ∷ 0x32 ∷ 0x30 ∷ 0x41 ∷ 0x46 ∷ 0x43 ∷ 0x34 ∷ 0x31 ∷ 0x32 ∷ 0x45 ∷ 0x35 ∷ 0x0A ∷ []
-unfolding line_of addressesText placesText digitOf
+unfolding line_of addresses_text places_text digit_of
 one_found = refl
 
 -- `rx 8000 unread 0`
 nothing-unread : line_of (reply.RxStatus 0x8000 (pos 0)) [] []
     ≡ 0x72 ∷ 0x78 ∷ 0x20 ∷ 0x38 ∷ 0x30 ∷ 0x30 ∷ 0x30 ∷ 0x20 ∷ 0x75 ∷ 0x6E ∷ 0x72 ∷ 0x65 ∷ 0x61 ∷ 0x64 ∷ 0x20 ∷ 0x30 ∷ 0x0A ∷ []
-unfolding line_of signedText placesText digitOf
+unfolding line_of signed_text places_text digit_of
 nothing-unread = refl
 
 -- `rx 07FF unread -1`
-one-past : line_of (reply.RxStatus 0x07FF (negsuc 0)) [] []
+one_past : line_of (reply.RxStatus 0x07FF (negsuc 0)) [] []
     ≡ 0x72 ∷ 0x78 ∷ 0x20 ∷ 0x30 ∷ 0x37 ∷ 0x46 ∷ 0x46 ∷ 0x20 ∷ 0x75 ∷ 0x6E ∷ 0x72 ∷ 0x65 ∷ 0x61 ∷ 0x64 ∷ 0x20 ∷ 0x2D ∷ 0x31 ∷ 0x0A ∷ []
-unfolding line_of signedText placesText digitOf
-one-past = refl
+unfolding line_of signed_text places_text digit_of
+one_past = refl
 
 -- `rx 07FD unread -3`
-three-past : line_of (reply.RxStatus 0x07FD (negsuc 2)) [] []
+three_past : line_of (reply.RxStatus 0x07FD (negsuc 2)) [] []
     ≡ 0x72 ∷ 0x78 ∷ 0x20 ∷ 0x30 ∷ 0x37 ∷ 0x46 ∷ 0x44 ∷ 0x20 ∷ 0x75 ∷ 0x6E ∷ 0x72 ∷ 0x65 ∷ 0x61 ∷ 0x64 ∷ 0x20 ∷ 0x2D ∷ 0x33 ∷ 0x0A ∷ []
-unfolding line_of signedText placesText digitOf
-three-past = refl
+unfolding line_of signed_text places_text digit_of
+three_past = refl
 
 -- `rx 0700 unread 1792`
-longest-unread : line_of (reply.RxStatus 0x0700 (pos 1792)) [] []
+longest_unread : line_of (reply.RxStatus 0x0700 (pos 1792)) [] []
     ≡ 0x72 ∷ 0x78 ∷ 0x20 ∷ 0x30 ∷ 0x37 ∷ 0x30 ∷ 0x30 ∷ 0x20 ∷ 0x75 ∷ 0x6E ∷ 0x72 ∷ 0x65 ∷ 0x61 ∷ 0x64 ∷ 0x20 ∷ 0x31 ∷ 0x37 ∷ 0x39 ∷ 0x32 ∷ 0x0A ∷ []
-unfolding line_of signedText placesText digitOf
-longest-unread = refl
+unfolding line_of signed_text places_text digit_of
+longest_unread = refl

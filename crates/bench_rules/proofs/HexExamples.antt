@@ -1,25 +1,25 @@
 -- Digits, computed. Assumes nothing.
 use mathlib.Core.Path.{◌≡◌, refl}
-use Rattle.bench_rules.specs.Text.{value_of, digitOf}
+use Rattle.bench_rules.specs.Text.{value_of, digit_of}
 
 -- F and f are 15; G and g are no digits
-upper-f : value_of 0x46 ≡ 15
+upper_f : value_of 0x46 ≡ 15
 unfolding value_of
-upper-f = refl
+upper_f = refl
 
-upper-g : value_of 0x47 ≡ 16
+upper_g : value_of 0x47 ≡ 16
 unfolding value_of
-upper-g = refl
+upper_g = refl
 
-lower-f : value_of 0x66 ≡ 15
+lower_f : value_of 0x66 ≡ 15
 unfolding value_of
-lower-f = refl
+lower_f = refl
 
-lower-g : value_of 0x67 ≡ 16
+lower_g : value_of 0x67 ≡ 16
 unfolding value_of
-lower-g = refl
+lower_g = refl
 
 -- 10 is printed as A
-ten : digitOf 10 ≡ 0x41
-unfolding digitOf
+ten : digit_of 10 ≡ 0x41
+unfolding digit_of
 ten = refl

@@ -8,7 +8,7 @@ use native.Mathlib.Numerals.{add-one, sub-one}
 use borrow.Author.Tests.{lt-ltb, le-ltb}
 use lib.ListN.{length, take, drop, get_or, set, length-append, length-set}
 use lib.Seq.{take-suc, take-suc-set}
-use Rattle.bench_rules.specs.Text.{Puts, byteText, bytesText, placesText, digitOf}
+use Rattle.bench_rules.specs.Text.{Puts, byte_text, bytes_text, places_text, digit_of}
 
 -- nothing put
 pub none : (at : ℕ) (t : List ℕ) → Puts [] at t t at
@@ -37,20 +37,20 @@ pub more : (s : List ℕ) (at i : ℕ) {t t' : List ℕ} → Puts (take i s) at 
 more s at i {t} {t'} p h room =
     as_said (on p (one (at + i) t' (get_or s i 0) (omega (arith, p.long)))) (sym (rw add-one (take-suc s i 0 h))) (omega arith)
 
-pub length-bytes : (s : List ℕ) → length (bytesText s) ≡ 2 * length s
-unfolding bytesText
+pub length-bytes : (s : List ℕ) → length (bytes_text s) ≡ 2 * length s
+unfolding bytes_text
 length-bytes [] = refl
 length-bytes (b ∷ s) = omega (arith, length-bytes s)
 
-pub bytes-snoc : (s : List ℕ) (b : ℕ) → bytesText (s ++ (b ∷ [])) ≡ bytesText s ++ byteText b
-unfolding bytesText
-bytes-snoc [] b = refl
-bytes-snoc (a ∷ s) b = ap (λ (l : List ℕ). digitOf (a / 16) ∷ digitOf (a % 16) ∷ l) (bytes-snoc s b)
+pub bytes_snoc : (s : List ℕ) (b : ℕ) → bytes_text (s ++ (b ∷ [])) ≡ bytes_text s ++ byte_text b
+unfolding bytes_text
+bytes_snoc [] b = refl
+bytes_snoc (a ∷ s) b = ap (λ (l : List ℕ). digit_of (a / 16) ∷ digit_of (a % 16) ∷ l) (bytes_snoc s b)
 
 -- the loop of `put_bytes`
-pub more_bytes : (s : List ℕ) (i at place r : ℕ) {t t' t'' : List ℕ} → Puts (bytesText (take i s)) at t t' place → Puts (byteText (get_or s i 0)) place t' t'' r → i < length s → Puts (bytesText (take (i + 1) s)) at t t'' r
+pub more_bytes : (s : List ℕ) (i at place r : ℕ) {t t' t'' : List ℕ} → Puts (bytes_text (take i s)) at t t' place → Puts (byte_text (get_or s i 0)) place t' t'' r → i < length s → Puts (bytes_text (take (i + 1) s)) at t t'' r
 more_bytes s i at place r p q h =
-    as_said (on p q) (sym (ap bytesText (rw add-one (take-suc s i 0 h)) ∙ bytes-snoc (take i s) (get_or s i 0))) refl
+    as_said (on p q) (sym (ap bytes_text (rw add-one (take-suc s i 0 h)) ∙ bytes_snoc (take i s) (get_or s i 0))) refl
 
 -- two digits
 pub two : (at : ℕ) (t : List ℕ) (v w : ℕ) → at + 2 ≤ length t → Puts (v ∷ w ∷ []) at t (set (set t at v) (at + 1) w) (at + 2)
@@ -58,16 +58,16 @@ two at t v w h =
     as_said (on (one at t v (omega arith)) (one (at + 1) (set t at v) w (omega (arith, length-set t at v)))) refl (omega arith)
 
 -- decimal digits
-pub places-none : (k n : ℕ) → k ≡ 0 → [] ≡ placesText k n
-unfolding placesText
+pub places-none : (k n : ℕ) → k ≡ 0 → [] ≡ places_text k n
+unfolding places_text
 places-none k n e = rw e
 
-pub places-last : (k n : ℕ) → 0 < k → n < 10 → digitOf n ∷ [] ≡ placesText k n
-unfolding placesText
+pub places-last : (k n : ℕ) → 0 < k → n < 10 → digit_of n ∷ [] ≡ places_text k n
+unfolding places_text
 places-last zero n h g = absurd (omega arith)
 places-last (suc k) n h g = rw (lt-ltb n 10 g)
 
-pub places-more : (k n : ℕ) → 0 < k → 10 ≤ n → placesText (k - 1) (n / 10) ++ (digitOf (n % 10) ∷ []) ≡ placesText k n
-unfolding placesText
-places-more zero n h g = absurd (omega arith)
-places-more (suc k) n h g = rw (le-ltb n 10 g, sub-one)
+pub places_more : (k n : ℕ) → 0 < k → 10 ≤ n → places_text (k - 1) (n / 10) ++ (digit_of (n % 10) ∷ []) ≡ places_text k n
+unfolding places_text
+places_more zero n h g = absurd (omega arith)
+places_more (suc k) n h g = rw (le-ltb n 10 g, sub-one)

@@ -10,7 +10,7 @@ use lib.Dec.{eqb, leb}
 use lib.ListN.{length, take, drop, get_or, set, length-set, drop_of_length-le}
 use lib.Seq.{drop-cons, take-suc-set}
 use Rattle.bench_rules.specs.declared.Spelled.TheVariants.{Bytes, Wrong}
-use Rattle.bench_rules.specs.Text.{read_on, valued, value_of, isHex, isPairs, bytes_of, Paired}
+use Rattle.bench_rules.specs.Text.{read_on, valued, value_of, is_hex, is_pairs, bytes_of, Paired}
 
 -- One digit more is read.
 pub read_more : (base n : ℕ) (s : List ℕ) (i : ℕ) → i < length s → read_on base (valued base n (get_or s i 0)) (drop (i + 1) s) ≡ read_on base n (drop i s)
@@ -31,13 +31,13 @@ next-two s i h =
 -- What is kept: the bytes read so far stand in front of those to come, and whether all are digits hangs on what is to come.
 pub record Reads (s : List ℕ) (i : ℕ) (out : List ℕ) : Type 0 where
   pub bytes : bytes_of s ≡ take i out ++ bytes_of (drop (2 * i) s)
-  pub digits : isHex s ≡ isHex (drop (2 * i) s)
+  pub digits : is_hex s ≡ is_hex (drop (2 * i) s)
 
 pub reads_none : (s out : List ℕ) → Reads s 0 out
 reads_none s out = record { bytes = refl; digits = refl }
 
 pub reads_more : (s : List ℕ) (i : ℕ) (out : List ℕ) (v : ℕ) → Reads s i out → 2 * i + 2 ≤ length s → i < length out → value_of (get_or s (2 * i) 0) ≤ 15 → value_of (get_or s (2 * i + 1) 0) ≤ 15 → v ≡ value_of (get_or s (2 * i) 0) * 16 + value_of (get_or s (2 * i + 1) 0) → Reads s (i + 1) (set out i v)
-unfolding bytes_of isHex
+unfolding bytes_of is_hex
 reads_more s i out v p h room a b e =
     let f : take (i + 1) (set out i v) ≡ take i out ++ (v ∷ []) = rw add-one (take-suc-set out i v room) in
     record {
@@ -49,24 +49,24 @@ reads_more s i out v p h room a b e =
           ∙ ap (λ (l : List ℕ). l ++ bytes_of (drop (2 * (i + 1)) s)) (sym f)));
       digits =
           p.digits
-          ∙ (ap isHex (next-two s i h)
+          ∙ (ap is_hex (next-two s i h)
           ∙ rw (le-leb _ _ a, le-leb _ _ b));
     }
 
-pub reads_all : (s : List ℕ) (i : ℕ) (out : List ℕ) → Reads s i out → length s ≤ 2 * i → (take i out ≡ bytes_of s) × (isHex s ≡ true)
-unfolding bytes_of isHex
+pub reads_all : (s : List ℕ) (i : ℕ) (out : List ℕ) → Reads s i out → length s ≤ 2 * i → (take i out ≡ bytes_of s) × (is_hex s ≡ true)
+unfolding bytes_of is_hex
 reads_all s i out p h = (
   sym (p.bytes ∙ (ap (λ (l : List ℕ). take i out ++ bytes_of l) (drop_of_length-le s h) ∙ append-nil (take i out))),
-  p.digits ∙ ap isHex (drop_of_length-le s h),
+  p.digits ∙ ap is_hex (drop_of_length-le s h),
 )
 
-pub first-wrong : (s : List ℕ) (i : ℕ) (out : List ℕ) → Reads s i out → 2 * i + 2 ≤ length s → 15 < value_of (get_or s (2 * i) 0) → isHex s ≡ false
-unfolding isHex
-first-wrong s i out p h a = p.digits ∙ (ap isHex (next-two s i h) ∙ rw (lt-leb _ _ a))
+pub first_wrong : (s : List ℕ) (i : ℕ) (out : List ℕ) → Reads s i out → 2 * i + 2 ≤ length s → 15 < value_of (get_or s (2 * i) 0) → is_hex s ≡ false
+unfolding is_hex
+first_wrong s i out p h a = p.digits ∙ (ap is_hex (next-two s i h) ∙ rw (lt-leb _ _ a))
 
-pub second-wrong : (s : List ℕ) (i : ℕ) (out : List ℕ) → Reads s i out → 2 * i + 2 ≤ length s → value_of (get_or s (2 * i) 0) ≤ 15 → 15 < value_of (get_or s (2 * i + 1) 0) → isHex s ≡ false
-unfolding isHex
-second-wrong s i out p h a b = p.digits ∙ (ap isHex (next-two s i h) ∙ rw (le-leb _ _ a, lt-leb _ _ b))
+pub second_wrong : (s : List ℕ) (i : ℕ) (out : List ℕ) → Reads s i out → 2 * i + 2 ≤ length s → value_of (get_or s (2 * i) 0) ≤ 15 → 15 < value_of (get_or s (2 * i + 1) 0) → is_hex s ≡ false
+unfolding is_hex
+second_wrong s i out p h a b = p.digits ∙ (ap is_hex (next-two s i h) ∙ rw (le-leb _ _ a, lt-leb _ _ b))
 
 both_false : (a b : Bool) → (a && (b && false)) ≡ false
 both_false true true = refl
@@ -76,27 +76,27 @@ both_false false b = refl
 never : false ≡ true → ⊥
 never e = let z : ◌≡◌ {A = ℕ} 0 1 = ap (λ (b : Bool). cond b 1 0) e in omega arith
 
-unpaired : (s : List ℕ) (room : ℕ) → isHex s ≡ false → isPairs room s ≡ false
-unfolding isPairs
+unpaired : (s : List ℕ) (room : ℕ) → is_hex s ≡ false → is_pairs room s ≡ false
+unfolding is_pairs
 unpaired s room h = rw h (both_false (eqb (length s % 2) 0) (leb (length s / 2) room))
 
 -- The four ends: an odd number of digits, too many, a wrong digit, all read.
 pub odd : (s out : List ℕ) → (length s % 2 ≡ 0 → ⊥) → Paired s (length out) Wrong out
-unfolding isPairs
+unfolding is_pairs
 odd s out h = record { answer = rw (ne_eqb _ _ h); bytes = λ e. absurd (never (rw (ne_eqb _ _ h) at e)); long = refl }
 
 pub crowded : (s out : List ℕ) → (length s % 2 ≡ 0) → length out < length s / 2 → Paired s (length out) Wrong out
-unfolding isPairs
+unfolding is_pairs
 crowded s out h g = record { answer = rw (eq-eqb _ _ h, lt-leb _ _ g); bytes = λ e. absurd (never (rw (eq-eqb _ _ h, lt-leb _ _ g) at e)); long = refl }
 
-pub wrong : (s out out' : List ℕ) → length out' ≡ length out → isHex s ≡ false → Paired s (length out) Wrong out'
-unfolding isPairs
+pub wrong : (s out out' : List ℕ) → length out' ≡ length out → is_hex s ≡ false → Paired s (length out) Wrong out'
+unfolding is_pairs
 wrong s out out' l h = record { answer = rw (unpaired s (length out) h); bytes = λ e. absurd (never (sym (unpaired s (length out) h) ∙ e)); long = l }
 
 pub whole : (s out out' : List ℕ) (i : ℕ) → (length s % 2 ≡ 0) → length s / 2 ≤ length out → length out' ≡ length out → i ≡ length s / 2 → Reads s i out' → Paired s (length out) (Bytes (length s / 2)) out'
-unfolding isPairs
+unfolding is_pairs
 whole s out out' i h g l e p =
-    let a : (take i out' ≡ bytes_of s) × (isHex s ≡ true) = reads_all s i out' p (omega arith) in
+    let a : (take i out' ≡ bytes_of s) × (is_hex s ≡ true) = reads_all s i out' p (omega arith) in
     record {
       answer = rw (eq-eqb _ _ h, le-leb _ _ g, a.1);
       bytes = λ _. rw (← e) a.0;

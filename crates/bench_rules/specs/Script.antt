@@ -1,6 +1,6 @@
 -- The language of the bench: which line asks for what. A line is a list of characters without its newline. Assumes nothing.
 use Rattle.std.specs.Prelude.{ℕ, zero, suc, ◌+◌, ◌-◌, ◌*◌, ◌/◌, ◌≤◌, ◌≡◌, Bool, true, false, cond, not, ◌&&◌, ◌||◌, List, [], ◌∷◌, length, take, drop, get_or, ltb, leb, eqb}
-use Rattle.bench_rules.specs.Text.{none, number_of, isPairs, bytes_of}
+use Rattle.bench_rules.specs.Text.{none, number_of, is_pairs, bytes_of}
 use Rattle.bench_rules.specs.declared.Kind.{Kind}
 use Rattle.bench_rules.specs.declared.Kind.TheVariants.{Nothing, Unknown, Power, Join, ReadWord, ReadByte, WriteWord, WriteByte, Start, Bytes, End, Sent, Collided, RxStatus, IdWrite, IdRead, Search, Activate, Open, Send, Service}
 use Rattle.bench_rules.specs.declared.Line.{Line}
@@ -16,35 +16,35 @@ unfoldable pub is_of : ℕ → ℕ → Bool
 is_of class b = cond (eqb class 0) (blank b) (cond (eqb class 1) (not (blank b)) (eqb b 0x23))
 
 -- How far it is to the first character of a class; to the end if there is none.
-unfoldable pub reachOf : ℕ → List ℕ → ℕ
-reachOf class [] = 0
-reachOf class (b ∷ s) = cond (is_of class b) 0 (suc (reachOf class s))
+unfoldable pub reach_of : ℕ → List ℕ → ℕ
+reach_of class [] = 0
+reach_of class (b ∷ s) = cond (is_of class b) 0 (suc (reach_of class s))
 
 -- The word at the front: up to the first blank.
 unfoldable pub word_of : List ℕ → List ℕ
-word_of s = take (reachOf 0 s) s
+word_of s = take (reach_of 0 s) s
 
-abbrev pub skipOf : List ℕ → List ℕ
-skipOf s = drop (reachOf 1 s) s
+abbrev pub skip_of : List ℕ → List ℕ
+skip_of s = drop (reach_of 1 s) s
 
 -- From the next word on.
 unfoldable pub next_of : List ℕ → List ℕ
-next_of s = skipOf (drop (reachOf 0 s) s)
+next_of s = skip_of (drop (reach_of 0 s) s)
 
 -- From the first word on; a # starts a comment wherever it stands.
-unfoldable pub begunOf : List ℕ → List ℕ
-begunOf s = skipOf (take (reachOf 2 s) s)
+unfoldable pub begun_of : List ℕ → List ℕ
+begun_of s = skip_of (take (reach_of 2 s) s)
 
 -- ---- names
 
 -- A word of up to eight characters as one number, its characters as bytes; longer ones are 0.
-unfoldable pub keyOn : ℕ → List ℕ → ℕ
-keyOn n [] = n
-keyOn n (b ∷ s) = cond (leb 0x100000000000000 n) 0 (keyOn (n * 256 + b) s)
+unfoldable pub key_on : ℕ → List ℕ → ℕ
+key_on n [] = n
+key_on n (b ∷ s) = cond (leb 0x100000000000000 n) 0 (key_on (n * 256 + b) s)
 
 -- A word that begins with a zero is none of ours.
 unfoldable pub key_of : List ℕ → ℕ
-key_of s = cond (eqb (get_or s 0 0) 0) 0 (keyOn 0 s)
+key_of s = cond (eqb (get_or s 0 0) 0) 0 (key_on 0 s)
 
 unfoldable pub kind_of : ℕ → Kind
 kind_of key =
@@ -75,131 +75,131 @@ kind_of key =
 abbrev pub line_of : Kind → ℕ → ℕ → ℕ → ℕ → Line
 line_of k a b c n = record { kind = k; a = a; b = b; c = c; len = n }
 
-abbrev pub nothingLine : Line
-nothingLine = line_of Nothing 0 0 0 0
+abbrev pub nothing_line : Line
+nothing_line = line_of Nothing 0 0 0 0
 
-abbrev pub unknownLine : Line
-unknownLine = line_of Unknown 0 0 0 0
+abbrev pub unknown_line : Line
+unknown_line = line_of Unknown 0 0 0 0
 
 -- How many words follow the first, from the lengths of what follows: 4 for more than three.
 unfoldable pub count_of : ℕ → ℕ → ℕ → ℕ → ℕ
 count_of one two three more = cond (eqb one 0) 0 (cond (eqb two 0) 1 (cond (eqb three 0) 2 (cond (eqb more 0) 3 4)))
 
 -- The number that a word spells, if it is at most `most`.
-unfoldable pub operandOf : ℕ → ℕ → List ℕ → ℕ
-operandOf base most word = cond (ltb most (number_of base word)) none (number_of base word)
+unfoldable pub operand_of : ℕ → ℕ → List ℕ → ℕ
+operand_of base most word = cond (ltb most (number_of base word)) none (number_of base word)
 
 -- No operand; a number; two; three.
-unfoldable pub plainLine : Kind → ℕ → Line
-plainLine k count = cond (eqb count 0) (line_of k 0 0 0 0) unknownLine
+unfoldable pub plain_line : Kind → ℕ → Line
+plain_line k count = cond (eqb count 0) (line_of k 0 0 0 0) unknown_line
 
-unfoldable pub numberLine : Kind → ℕ → ℕ → List ℕ → Line
-numberLine k base count one =
+unfoldable pub number_line : Kind → ℕ → ℕ → List ℕ → Line
+number_line k base count one =
     cond (eqb count 1)
-    (cond (ltb 65535 (operandOf base 65535 one)) unknownLine
-    (line_of k (operandOf base 65535 one) 0 0 0))
-    unknownLine
+    (cond (ltb 65535 (operand_of base 65535 one)) unknown_line
+    (line_of k (operand_of base 65535 one) 0 0 0))
+    unknown_line
 
-unfoldable pub pairLine : Kind → ℕ → ℕ → List ℕ → List ℕ → Line
-pairLine k most count one two =
+unfoldable pub pair_line : Kind → ℕ → ℕ → List ℕ → List ℕ → Line
+pair_line k most count one two =
     cond (eqb count 2)
-    (cond (ltb 65535 (operandOf 16 65535 one)) unknownLine
-    (cond (ltb 65535 (operandOf 16 most two)) unknownLine
-    (line_of k (operandOf 16 65535 one) (operandOf 16 most two) 0 0)))
-    unknownLine
+    (cond (ltb 65535 (operand_of 16 65535 one)) unknown_line
+    (cond (ltb 65535 (operand_of 16 most two)) unknown_line
+    (line_of k (operand_of 16 65535 one) (operand_of 16 most two) 0 0)))
+    unknown_line
 
-unfoldable pub tripleLine : Kind → ℕ → ℕ → ℕ → List ℕ → List ℕ → List ℕ → Line
-tripleLine k base most count one two three =
+unfoldable pub triple_line : Kind → ℕ → ℕ → ℕ → List ℕ → List ℕ → List ℕ → Line
+triple_line k base most count one two three =
     cond (eqb count 3)
-    (cond (ltb 65535 (operandOf 16 65535 one)) unknownLine
-    (cond (ltb 65535 (operandOf base most two)) unknownLine
-    (cond (ltb 65535 (operandOf base most three)) unknownLine
-    (line_of k (operandOf 16 65535 one) (operandOf base most two) (operandOf base most three) 0))))
-    unknownLine
+    (cond (ltb 65535 (operand_of 16 65535 one)) unknown_line
+    (cond (ltb 65535 (operand_of base most two)) unknown_line
+    (cond (ltb 65535 (operand_of base most three)) unknown_line
+    (line_of k (operand_of 16 65535 one) (operand_of base most two) (operand_of base most three) 0))))
+    unknown_line
 
 -- A flag is 0 or 1.
-unfoldable pub flagOf : ℕ → ℕ
-flagOf b = cond (eqb b 0x30) 0 (cond (eqb b 0x31) 1 2)
+unfoldable pub flag_of : ℕ → ℕ
+flag_of b = cond (eqb b 0x30) 0 (cond (eqb b 0x31) 1 2)
 
 -- Two flags in one word: check sequence good, alignment good.
-unfoldable pub flagLine : ℕ → List ℕ → Line
-flagLine count one =
+unfoldable pub flag_line : ℕ → List ℕ → Line
+flag_line count one =
     cond (eqb count 1)
     (cond (eqb (length one) 2)
-    (cond (ltb 1 (flagOf (get_or one 0 0))) unknownLine
-    (cond (ltb 1 (flagOf (get_or one 1 0))) unknownLine
-    (line_of End (flagOf (get_or one 0 0)) (flagOf (get_or one 1 0)) 0 0)))
-    unknownLine)
-    unknownLine
+    (cond (ltb 1 (flag_of (get_or one 0 0))) unknown_line
+    (cond (ltb 1 (flag_of (get_or one 1 0))) unknown_line
+    (line_of End (flag_of (get_or one 0 0)) (flag_of (get_or one 1 0)) 0 0)))
+    unknown_line)
+    unknown_line
 
 -- A byte string of n bytes: any number where `exact` is 0.
-unfoldable pub exactLine : Kind → ℕ → ℕ → Line
-exactLine k exact n = cond (eqb n exact) (line_of k 0 0 0 n) unknownLine
+unfoldable pub exact_line : Kind → ℕ → ℕ → Line
+exact_line k exact n = cond (eqb n exact) (line_of k 0 0 0 n) unknown_line
 
-unfoldable pub countedLine : Kind → ℕ → ℕ → Line
-countedLine k exact n = cond (eqb exact 0) (line_of k 0 0 0 n) (exactLine k exact n)
+unfoldable pub counted_line : Kind → ℕ → ℕ → Line
+counted_line k exact n = cond (eqb exact 0) (line_of k 0 0 0 n) (exact_line k exact n)
 
-unfoldable pub byteLine : Kind → ℕ → ℕ → ℕ → List ℕ → Line
-byteLine k exact count room one =
+unfoldable pub byte_line : Kind → ℕ → ℕ → ℕ → List ℕ → Line
+byte_line k exact count room one =
     cond (eqb count 1)
-    (cond (isPairs room one) (countedLine k exact (length one / 2)) unknownLine)
-    unknownLine
+    (cond (is_pairs room one) (counted_line k exact (length one / 2)) unknown_line)
+    unknown_line
 
 -- Numbers are hexadecimal but for tag, base number and budget.
-unfoldable pub numbersLine : Kind → ℕ → List ℕ → List ℕ → List ℕ → Line
-numbersLine Nothing count one two three = unknownLine
-numbersLine Unknown count one two three = unknownLine
-numbersLine Power count one two three = unknownLine
-numbersLine Join count one two three = unknownLine
-numbersLine ReadWord count one two three = numberLine ReadWord 16 count one
-numbersLine ReadByte count one two three = numberLine ReadByte 16 count one
-numbersLine WriteWord count one two three = pairLine WriteWord 65535 count one two
-numbersLine WriteByte count one two three = pairLine WriteByte 255 count one two
-numbersLine Start count one two three = unknownLine
-numbersLine Bytes count one two three = unknownLine
-numbersLine End count one two three = flagLine count one
-numbersLine Sent count one two three = plainLine Sent count
-numbersLine Collided count one two three = plainLine Collided count
-numbersLine RxStatus count one two three = plainLine RxStatus count
-numbersLine IdWrite count one two three = pairLine IdWrite 255 count one two
-numbersLine IdRead count one two three = numberLine IdRead 16 count one
-numbersLine Search count one two three = numberLine Search 16 count one
-numbersLine Activate count one two three = tripleLine Activate 10 65535 count one two three
-numbersLine Open count one two three = tripleLine Open 16 65535 count one two three
-numbersLine Send count one two three = unknownLine
-numbersLine Service count one two three = numberLine Service 10 count one
+unfoldable pub numbers_line : Kind → ℕ → List ℕ → List ℕ → List ℕ → Line
+numbers_line Nothing count one two three = unknown_line
+numbers_line Unknown count one two three = unknown_line
+numbers_line Power count one two three = unknown_line
+numbers_line Join count one two three = unknown_line
+numbers_line ReadWord count one two three = number_line ReadWord 16 count one
+numbers_line ReadByte count one two three = number_line ReadByte 16 count one
+numbers_line WriteWord count one two three = pair_line WriteWord 65535 count one two
+numbers_line WriteByte count one two three = pair_line WriteByte 255 count one two
+numbers_line Start count one two three = unknown_line
+numbers_line Bytes count one two three = unknown_line
+numbers_line End count one two three = flag_line count one
+numbers_line Sent count one two three = plain_line Sent count
+numbers_line Collided count one two three = plain_line Collided count
+numbers_line RxStatus count one two three = plain_line RxStatus count
+numbers_line IdWrite count one two three = pair_line IdWrite 255 count one two
+numbers_line IdRead count one two three = number_line IdRead 16 count one
+numbers_line Search count one two three = number_line Search 16 count one
+numbers_line Activate count one two three = triple_line Activate 10 65535 count one two three
+numbers_line Open count one two three = triple_line Open 16 65535 count one two three
+numbers_line Send count one two three = unknown_line
+numbers_line Service count one two three = number_line Service 10 count one
 
 -- 64 words are 128 bytes; a start has 8.
-unfoldable pub operandLine : Kind → ℕ → ℕ → List ℕ → List ℕ → List ℕ → Line
-operandLine Nothing count room one two three = numbersLine Nothing count one two three
-operandLine Unknown count room one two three = numbersLine Unknown count one two three
-operandLine Power count room one two three = byteLine Power 128 count room one
-operandLine Join count room one two three = byteLine Join 128 count room one
-operandLine ReadWord count room one two three = numbersLine ReadWord count one two three
-operandLine ReadByte count room one two three = numbersLine ReadByte count one two three
-operandLine WriteWord count room one two three = numbersLine WriteWord count one two three
-operandLine WriteByte count room one two three = numbersLine WriteByte count one two three
-operandLine Start count room one two three = byteLine Start 8 count room one
-operandLine Bytes count room one two three = byteLine Bytes 0 count room one
-operandLine End count room one two three = numbersLine End count one two three
-operandLine Sent count room one two three = numbersLine Sent count one two three
-operandLine Collided count room one two three = numbersLine Collided count one two three
-operandLine RxStatus count room one two three = numbersLine RxStatus count one two three
-operandLine IdWrite count room one two three = numbersLine IdWrite count one two three
-operandLine IdRead count room one two three = numbersLine IdRead count one two three
-operandLine Search count room one two three = numbersLine Search count one two three
-operandLine Activate count room one two three = numbersLine Activate count one two three
-operandLine Open count room one two three = numbersLine Open count one two three
-operandLine Send count room one two three = byteLine Send 0 count room one
-operandLine Service count room one two three = numbersLine Service count one two three
+unfoldable pub operand_line : Kind → ℕ → ℕ → List ℕ → List ℕ → List ℕ → Line
+operand_line Nothing count room one two three = numbers_line Nothing count one two three
+operand_line Unknown count room one two three = numbers_line Unknown count one two three
+operand_line Power count room one two three = byte_line Power 128 count room one
+operand_line Join count room one two three = byte_line Join 128 count room one
+operand_line ReadWord count room one two three = numbers_line ReadWord count one two three
+operand_line ReadByte count room one two three = numbers_line ReadByte count one two three
+operand_line WriteWord count room one two three = numbers_line WriteWord count one two three
+operand_line WriteByte count room one two three = numbers_line WriteByte count one two three
+operand_line Start count room one two three = byte_line Start 8 count room one
+operand_line Bytes count room one two three = byte_line Bytes 0 count room one
+operand_line End count room one two three = numbers_line End count one two three
+operand_line Sent count room one two three = numbers_line Sent count one two three
+operand_line Collided count room one two three = numbers_line Collided count one two three
+operand_line RxStatus count room one two three = numbers_line RxStatus count one two three
+operand_line IdWrite count room one two three = numbers_line IdWrite count one two three
+operand_line IdRead count room one two three = numbers_line IdRead count one two three
+operand_line Search count room one two three = numbers_line Search count one two three
+operand_line Activate count room one two three = numbers_line Activate count one two three
+operand_line Open count room one two three = numbers_line Open count one two three
+operand_line Send count room one two three = byte_line Send 0 count room one
+operand_line Service count room one two three = numbers_line Service count one two three
 
 -- ---- lines
 
 -- From the first word on: empty for an empty line and for a comment.
-unfoldable pub wordsLine : ℕ → List ℕ → Line
-wordsLine room [] = nothingLine
-wordsLine room (b ∷ s) =
-    operandLine (kind_of (key_of (word_of (b ∷ s))))
+unfoldable pub words_line : ℕ → List ℕ → Line
+words_line room [] = nothing_line
+words_line room (b ∷ s) =
+    operand_line (kind_of (key_of (word_of (b ∷ s))))
     (count_of (length (next_of (b ∷ s))) (length (next_of (next_of (b ∷ s)))) (length (next_of (next_of (next_of (b ∷ s))))) (length (next_of (next_of (next_of (next_of (b ∷ s)))))))
     room
     (word_of (next_of (b ∷ s)))
@@ -207,12 +207,12 @@ wordsLine room (b ∷ s) =
     (word_of (next_of (next_of (next_of (b ∷ s)))))
 
 -- What a line means, with room for so many bytes.
-abbrev pub meaningOf : ℕ → List ℕ → Line
-meaningOf room line = wordsLine room (begunOf line)
+abbrev pub meaning_of : ℕ → List ℕ → Line
+meaning_of room line = words_line room (begun_of line)
 
 -- The bytes that a line spells.
-abbrev pub spelledOf : List ℕ → List ℕ
-spelledOf line = bytes_of (word_of (next_of (begunOf line)))
+abbrev pub spelled_of : List ℕ → List ℕ
+spelled_of line = bytes_of (word_of (next_of (begun_of line)))
 
 -- A line is understood as wanted, and its bytes stand at the front of the area.
 pub record Spells (wanted : Line) (one : List ℕ) (room : ℕ) (r : Line) (bytes : List ℕ) : Type 0 where
@@ -222,4 +222,4 @@ pub record Spells (wanted : Line) (one : List ℕ) (room : ℕ) (r : Line) (byte
   pub long : length bytes ≡ room
 
 abbrev pub Means : List ℕ → ℕ → Line → List ℕ → Type 0
-Means line room r bytes = Spells (meaningOf room line) (word_of (next_of (begunOf line))) room r bytes
+Means line room r bytes = Spells (meaning_of room line) (word_of (next_of (begun_of line))) room r bytes

@@ -36,13 +36,13 @@ unfoldable pub number_of : ℕ → List ℕ → ℕ
 number_of base s = cond (eqb (length s) 0) none (cond (ltb 16 base) none (read_on base 0 s))
 
 -- Every character is a hex digit.
-unfoldable pub isHex : List ℕ → Bool
-isHex [] = true
-isHex (b ∷ s) = leb (value_of b) 15 && isHex s
+unfoldable pub is_hex : List ℕ → Bool
+is_hex [] = true
+is_hex (b ∷ s) = leb (value_of b) 15 && is_hex s
 
 -- An even number of hex digits, for no more bytes than there is room for.
-unfoldable pub isPairs : ℕ → List ℕ → Bool
-isPairs room s = eqb (length s % 2) 0 && (leb (length s / 2) room && isHex s)
+unfoldable pub is_pairs : ℕ → List ℕ → Bool
+is_pairs room s = eqb (length s % 2) 0 && (leb (length s / 2) room && is_hex s)
 
 -- two digits a byte
 unfoldable pub bytes_of : List ℕ → List ℕ
@@ -51,34 +51,34 @@ bytes_of (a ∷ []) = []
 bytes_of (a ∷ b ∷ s) = (value_of a * 16 + value_of b) ∷ bytes_of s
 
 pub record Paired (word : List ℕ) (room : ℕ) (r : Spelled) (out : List ℕ) : Type 0 where
-  pub answer : r ≡ cond (isPairs room word) (Bytes (length word / 2)) Wrong
-  pub bytes : isPairs room word ≡ true → take (length word / 2) out ≡ bytes_of word
+  pub answer : r ≡ cond (is_pairs room word) (Bytes (length word / 2)) Wrong
+  pub bytes : is_pairs room word ≡ true → take (length word / 2) out ≡ bytes_of word
   pub long : length out ≡ room
 
 -- ---- printing
 
 -- A hex digit: 0 to 9, then upper-case A to F.
-unfoldable pub digitOf : ℕ → ℕ
-digitOf d = cond (ltb d 10) (0x30 + d) (0x41 + (d - 10))
+unfoldable pub digit_of : ℕ → ℕ
+digit_of d = cond (ltb d 10) (0x30 + d) (0x41 + (d - 10))
 
-abbrev pub byteText : ℕ → List ℕ
-byteText b = digitOf (b / 16) ∷ digitOf (b % 16) ∷ []
+abbrev pub byte_text : ℕ → List ℕ
+byte_text b = digit_of (b / 16) ∷ digit_of (b % 16) ∷ []
 
-abbrev pub wordText : ℕ → List ℕ
-wordText v = byteText (v / 256) ++ byteText (v % 256)
+abbrev pub word_text : ℕ → List ℕ
+word_text v = byte_text (v / 256) ++ byte_text (v % 256)
 
-unfoldable pub bytesText : List ℕ → List ℕ
-bytesText [] = []
-bytesText (b ∷ s) = byteText b ++ bytesText s
+unfoldable pub bytes_text : List ℕ → List ℕ
+bytes_text [] = []
+bytes_text (b ∷ s) = byte_text b ++ bytes_text s
 
 -- at most k decimal digits
-unfoldable pub placesText : ℕ → ℕ → List ℕ
-placesText zero n = []
-placesText (suc k) n = cond (ltb n 10) (digitOf n ∷ []) (placesText k (n / 10) ++ (digitOf (n % 10) ∷ []))
+unfoldable pub places_text : ℕ → ℕ → List ℕ
+places_text zero n = []
+places_text (suc k) n = cond (ltb n 10) (digit_of n ∷ []) (places_text k (n / 10) ++ (digit_of (n % 10) ∷ []))
 
 -- A number below 100,000 in decimal, with no zero in front.
-abbrev pub decimalText : ℕ → List ℕ
-decimalText n = placesText 5 n
+abbrev pub decimal_text : ℕ → List ℕ
+decimal_text n = places_text 5 n
 
 -- Characters are put into a text from a place on: what stood before it stays, r is the place behind them, and the text is as long as it was.
 pub record Puts (chars : List ℕ) (at : ℕ) (text text' : List ℕ) (r : ℕ) : Type 0 where

@@ -6,20 +6,20 @@ use Prim.Native.Nat.{ℕ, ◌+◌, ◌≤◌}
 use native.Mathlib.Omega.{arith}
 use lib.ListN.{length, length-append}
 use lib.Dec.{eqb}
-use Rattle.store.specs.Store.{atNewest, round4}
+use Rattle.store.specs.Store.{at_newest, round4}
 use Rattle.store.proofs.Laws.{at_snoc}
 use Rattle.receive_rules.specs.Frame.{Frame, room}
 use Rattle.receive_rules.specs.Wire as wires
 use Rattle.receive_rules.specs.Wire.{begins, fresh, ends, fits8}
-use Rattle.receive_rules.specs.Early.{settleEarly}
+use Rattle.receive_rules.specs.Early.{settle_early}
 use Rattle.receive_rules.proofs.Whole.{Storing, start-stored}
 use Rattle.card_rules.specs.Adapter.{Adapter}
-use Rattle.card_rules.specs.Update.{withRx}
-use Rattle.card_rules.specs.Room.{rxRoom}
+use Rattle.card_rules.specs.Update.{with_rx}
+use Rattle.card_rules.specs.Room.{rx_room}
 use Rattle.card_rules.specs.Settle.{settle}
 use Rattle.card_rules.specs.Event as card
-use Rattle.card_rules.specs.Calls.{onWire, offWire}
-use Rattle.runs.specs.Run.{Bench, withAdapter, Start, Byte, End, wire, taken, next, after}
+use Rattle.card_rules.specs.Calls.{on_wire, off_wire}
+use Rattle.runs.specs.Run.{Bench, with_adapter, Start, Byte, End, wire, taken, next, after}
 use Rattle.frames_carried.proofs.One.{On, byte-on}
 
 -- what a frame on the wire leaves as it was
@@ -48,26 +48,26 @@ trans p q =
     }
 
 -- a step taken or refused
-same_taken : (ok : Bool) (a : Adapter) (b : Bench) → Same (withAdapter a b) b → Same (taken ok a b) b
+same_taken : (ok : Bool) (a : Adapter) (b : Bench) → Same (with_adapter a b) b → Same (taken ok a b) b
 same_taken true a b s = s
 same_taken false a b s = itself b
 
 same-begins : (t : Bool) (first : List ℕ) (b : Bench) →
-    Same (withAdapter (settle (withRx (begins t first b.adapter.rx) b.adapter)) b) b
+    Same (with_adapter (settle (with_rx (begins t first b.adapter.rx) b.adapter)) b) b
 unfolding settle begins
 same-begins true first b = record { id = refl; select = refl; failed = refl; read = refl; queue = refl; statuses = refl; driver = refl }
 same-begins false first b = record { id = refl; select = refl; failed = refl; read = refl; queue = refl; statuses = refl; driver = refl }
 
 same_start : (first : List ℕ) (eight : length first ≡ 8) (b : Bench) → Same (next (Start first eight) b) b
-unfolding next card.wireStart wires.wireStart
+unfolding next card.wire_start wires.wire_start
 same_start first eight b =
-    same_taken (offWire (wire b)) (card.wireStart first b.adapter) b
-    (same-begins (card.taken first b.adapter && (b.adapter.rx.receiver.on && fits8 (rxRoom b.adapter) b.adapter.rx.frames)) first b)
+    same_taken (off_wire (wire b)) (card.wire_start first b.adapter) b
+    (same-begins (card.taken first b.adapter && (b.adapter.rx.receiver.on && fits8 (rx_room b.adapter) b.adapter.rx.frames)) first b)
 
 same_byte : (v : ℕ) (b : Bench) → Same (next (Byte v) b) b
-unfolding next card.wireByte wires.wireByte settle
+unfolding next card.wire_byte wires.wire_byte settle
 same_byte v b =
-    same_taken (onWire (wire b)) (card.wireByte v b.adapter) b
+    same_taken (on_wire (wire b)) (card.wire_byte v b.adapter) b
     (record { id = refl; select = refl; failed = refl; read = refl; queue = refl; statuses = refl; driver = refl })
 
 same_bytes : (bs : List ℕ) (b : Bench) → Same (after (map Byte bs) b) b
@@ -76,24 +76,24 @@ same_bytes [] b = itself b
 same_bytes (v ∷ bs) b = trans (same_bytes bs (next (Byte v) b)) (same_byte v b)
 
 same_end : (check alignment : Bool) (b : Bench) → Same (next (End check alignment) b) b
-unfolding next card.wireEnd wires.wireEnd settle
+unfolding next card.wire_end wires.wire_end settle
 same_end check alignment b =
-    same_taken (onWire (wire b)) (card.wireEnd check alignment b.adapter) b
+    same_taken (on_wire (wire b)) (card.wire_end check alignment b.adapter) b
     (record { id = refl; select = refl; failed = refl; read = refl; queue = refl; statuses = refl; driver = refl })
 
 -- ---- the bytes that are stored
 
 module _ (first : List ℕ) (eight : length first ≡ 8) (b : Bench) where
   -- the start of a frame that the card takes
-  begun : offWire (wire b) ≡ true → card.taken first b.adapter ≡ true → b.adapter.rx.receiver.on ≡ true → room b.adapter.rx.frames + 8 ≤ rxRoom b.adapter →
-      On (rxRoom b.adapter) b.adapter.rx.frames first (next (Start first eight) b)
-  unfolding next card.wireStart settle
+  begun : off_wire (wire b) ≡ true → card.taken first b.adapter ≡ true → b.adapter.rx.receiver.on ≡ true → room b.adapter.rx.frames + 8 ≤ rx_room b.adapter →
+      On (rx_room b.adapter) b.adapter.rx.frames first (next (Start first eight) b)
+  unfolding next card.wire_start settle
   begun w y o space =
       let a : Adapter = b.adapter in
-      let e : next (Start first eight) b ≡ withAdapter (card.wireStart first a) b = ap (λ (t : Bool). taken t (card.wireStart first a) b) w in
-      let s : Storing a.rx.frames first (settleEarly (wires.wireStart (rxRoom a) (card.taken first a) first a.rx)) =
-      subst⁻¹ (λ (k : Bool). Storing a.rx.frames first (settleEarly (wires.wireStart (rxRoom a) k first a.rx))) y (start-stored (rxRoom a) first a.rx o space) in
-      subst⁻¹ (On (rxRoom a) a.rx.frames first) e (record { storing = record { wire = s.wire; frames = s.frames }; room = refl })
+      let e : next (Start first eight) b ≡ with_adapter (card.wire_start first a) b = ap (λ (t : Bool). taken t (card.wire_start first a) b) w in
+      let s : Storing a.rx.frames first (settle_early (wires.wire_start (rx_room a) (card.taken first a) first a.rx)) =
+      subst⁻¹ (λ (k : Bool). Storing a.rx.frames first (settle_early (wires.wire_start (rx_room a) k first a.rx))) y (start-stored (rx_room a) first a.rx o space) in
+      subst⁻¹ (On (rx_room a) a.rx.frames first) e (record { storing = record { wire = s.wire; frames = s.frames }; room = refl })
 
 bytes_on : (bs : List ℕ) (b : Bench) (size : ℕ) (fs : List Frame) (bytes : List ℕ) → On size fs bytes b → length bytes + length bs ≤ 1792 → room fs + round4 (length bytes + length bs) ≤ size →
     On size fs (bytes ++ bs) (after (map Byte bs) b)
@@ -107,13 +107,13 @@ bytes_on (v ∷ bs) b size fs bytes s short space =
 -- the end
 ended-on : (check alignment : Bool) (b : Bench) (size : ℕ) (fs : List Frame) (bytes : List ℕ) → On size fs bytes b →
     (next (End check alignment) b).adapter.rx.frames ≡ fs ++ (ends check alignment (fresh bytes) ∷ [])
-unfolding next card.wireEnd settle wires.wireEnd
+unfolding next card.wire_end settle wires.wire_end
 ended-on check alignment b size fs bytes s =
     let a : Adapter = b.adapter in
-    let e : next (End check alignment) b ≡ withAdapter (card.wireEnd check alignment a) b = ap (λ (n : ℕ). taken (onWire n) (card.wireEnd check alignment a) b) s.storing.wire in
+    let e : next (End check alignment) b ≡ with_adapter (card.wire_end check alignment a) b = ap (λ (n : ℕ). taken (on_wire n) (card.wire_end check alignment a) b) s.storing.wire in
     ap (λ (x : Bench). x.adapter.rx.frames) e
-    ∙ ap (λ (n : ℕ). cond (eqb n 2) (atNewest (ends check alignment) a.rx.frames) a.rx.frames) s.storing.wire
-    ∙ ap (atNewest (ends check alignment)) s.storing.frames
+    ∙ ap (λ (n : ℕ). cond (eqb n 2) (at_newest (ends check alignment) a.rx.frames) a.rx.frames) s.storing.wire
+    ∙ ap (at_newest (ends check alignment)) s.storing.frames
     ∙ at_snoc (ends check alignment) fs (fresh bytes)
 
 -- ---- a whole frame, from its start to its end
@@ -126,10 +126,10 @@ same-brought first eight bs check alignment b =
     trans (same_end check alignment (after (map Byte bs) (next (Start first eight) b))) (trans (same_bytes bs (next (Start first eight) b)) (same_start first eight b))
 
 -- what the store holds, where the card takes the frame and it fits: at most 1,792 bytes
-pub stores-brought : (first : List ℕ) (eight : length first ≡ 8) (bs : List ℕ) (check alignment : Bool) (b : Bench) →
-    offWire (wire b) ≡ true → card.taken first b.adapter ≡ true → b.adapter.rx.receiver.on ≡ true →
-    8 + length bs ≤ 1792 → room b.adapter.rx.frames + round4 (8 + length bs) ≤ rxRoom b.adapter →
+pub stores_brought : (first : List ℕ) (eight : length first ≡ 8) (bs : List ℕ) (check alignment : Bool) (b : Bench) →
+    off_wire (wire b) ≡ true → card.taken first b.adapter ≡ true → b.adapter.rx.receiver.on ≡ true →
+    8 + length bs ≤ 1792 → room b.adapter.rx.frames + round4 (8 + length bs) ≤ rx_room b.adapter →
     (brought first eight bs check alignment b).adapter.rx.frames ≡ b.adapter.rx.frames ++ (ends check alignment (fresh (first ++ bs)) ∷ [])
-stores-brought first eight bs check alignment b w y o short space =
-    ended-on check alignment (after (map Byte bs) (next (Start first eight) b)) (rxRoom b.adapter) b.adapter.rx.frames (first ++ bs)
-    (bytes_on bs (next (Start first eight) b) (rxRoom b.adapter) b.adapter.rx.frames first (begun first eight b w y o (omega arith)) (rw eight short) (rw eight space))
+stores_brought first eight bs check alignment b w y o short space =
+    ended-on check alignment (after (map Byte bs) (next (Start first eight) b)) (rx_room b.adapter) b.adapter.rx.frames (first ++ bs)
+    (bytes_on bs (next (Start first eight) b) (rx_room b.adapter) b.adapter.rx.frames first (begun first eight b w y o (omega arith)) (rw eight short) (rw eight space))

@@ -12,5 +12,5 @@ weigh weight false = 0
 abbrev pub low_byte : ℕ → ℕ → ℕ
 low_byte b w = w / 256 * 256 + b
 
-abbrev pub highByte : ℕ → ℕ → ℕ
-highByte b w = b * 256 + w % 256
+abbrev pub high_byte : ℕ → ℕ → ℕ
+high_byte b w = b * 256 + w % 256

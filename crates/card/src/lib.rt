@@ -1,5 +1,5 @@
 // The card: its public calls. Each tests the state that it is handed (refusal 1) and its arguments, refuses with card and memory as they came, or takes the step.
-ghost use Rattle.card_rules.specs.Contracts as contract;
+ghost use Rattle.card_rules.specs.CardContracts as contract;
 
 use card_rules::{AfterCall, AfterRead, AfterSuccess, Card, Done, Read, RxStatus, Told};
 use port_rules::IdState;
@@ -9,14 +9,14 @@ mod tests; // tests.rt: the tests of the card's public calls on their arguments
 
 // A card at power-on with these EEPROM words, and nothing on the wire.
 pub fn power_on(words: [u16; 64]) -> Card
-    ensures { contract.power-on words result }
+    ensures { contract.PowerOn words result }
 {
     regs::power_on(words, 0)
 }
 
 // The host reads a word.
 pub fn read_word(ram: &[u8; 8192], dir: &[u16; 1110], c: Card, o: u16) -> AfterRead
-    ensures { contract.read_word c ram.now dir.now o result }
+    ensures { contract.ReadsWord c ram.now dir.now o result }
 {
     if !regs::is_sound(ram, dir, c) {
         return AfterRead {
@@ -41,7 +41,7 @@ pub fn read_word(ram: &[u8; 8192], dir: &[u16; 1110], c: Card, o: u16) -> AfterR
 
 // The host reads a byte.
 pub fn read_byte(ram: &[u8; 8192], dir: &[u16; 1110], c: Card, o: u16) -> AfterRead
-    ensures { contract.read_byte c ram.now dir.now o result }
+    ensures { contract.ReadsByte c ram.now dir.now o result }
 {
     if !regs::is_sound(ram, dir, c) {
         return AfterRead {
@@ -66,7 +66,7 @@ pub fn read_byte(ram: &[u8; 8192], dir: &[u16; 1110], c: Card, o: u16) -> AfterR
 
 // The host writes a word.
 pub fn write_word(ram: &mut [u8; 8192], dir: &mut [u16; 1110], c: Card, o: u16, v: u16) -> AfterCall
-    ensures { contract.write_word c ram.old dir.old o v result ram.new dir.new }
+    ensures { contract.WritesWord c ram.old dir.old o v result ram.new dir.new }
 {
     if !regs::is_sound(ram, dir, c) {
         return AfterCall {
@@ -89,7 +89,7 @@ pub fn write_word(ram: &mut [u8; 8192], dir: &mut [u16; 1110], c: Card, o: u16, 
 
 // The host writes a byte.
 pub fn write_byte(ram: &mut [u8; 8192], dir: &mut [u16; 1110], c: Card, o: u16, v: u8) -> AfterCall
-    ensures { contract.write_byte c ram.old dir.old o v result ram.new dir.new }
+    ensures { contract.WritesByte c ram.old dir.old o v result ram.new dir.new }
 {
     if !regs::is_sound(ram, dir, c) {
         return AfterCall {
@@ -112,7 +112,7 @@ pub fn write_byte(ram: &mut [u8; 8192], dir: &mut [u16; 1110], c: Card, o: u16, 
 
 // The wire starts a frame with its first 8 bytes.
 pub fn wire_start(ram: &mut [u8; 8192], dir: &mut [u16; 1110], c: Card, first: [u8; 8]) -> AfterCall
-    ensures { contract.wire-start c ram.old dir.old first result ram.new dir.new }
+    ensures { contract.WireStart c ram.old dir.old first result ram.new dir.new }
 {
     if !regs::is_sound(ram, dir, c) {
         return AfterCall {
@@ -135,7 +135,7 @@ pub fn wire_start(ram: &mut [u8; 8192], dir: &mut [u16; 1110], c: Card, first: [
 
 // The wire brings a byte.
 pub fn wire_byte(ram: &mut [u8; 8192], dir: &mut [u16; 1110], c: Card, b: u8) -> AfterCall
-    ensures { contract.wire-byte c ram.old dir.old b result ram.new dir.new }
+    ensures { contract.WireByte c ram.old dir.old b result ram.new dir.new }
 {
     if !regs::is_sound(ram, dir, c) {
         return AfterCall {
@@ -164,7 +164,7 @@ pub fn wire_end(
     check: bool,
     alignment: bool,
 ) -> AfterCall
-    ensures { contract.wire-end c ram.old dir.old check alignment result ram.new dir.new }
+    ensures { contract.WireEnd c ram.old dir.old check alignment result ram.new dir.new }
 {
     if !regs::is_sound(ram, dir, c) {
         return AfterCall {
@@ -192,8 +192,8 @@ pub fn success(
     c: Card,
     out: &mut [u8; 1792],
 ) -> AfterSuccess
-    ensures success { contract.success c ram.old dir.old result ram.new dir.new }
-    ensures success_area { contract.success-area c ram.old dir.old out.old out.new }
+    ensures success { contract.Success c ram.old dir.old result ram.new dir.new }
+    ensures success_area { contract.SuccessArea c ram.old dir.old out.old out.new }
 {
     if !regs::is_sound(ram, dir, c) {
         return AfterSuccess {
@@ -218,7 +218,7 @@ pub fn success(
 
 // A send outcome: 16 collisions.
 pub fn collisions(ram: &mut [u8; 8192], dir: &mut [u16; 1110], c: Card) -> AfterCall
-    ensures { contract.collisions c ram.old dir.old result ram.new dir.new }
+    ensures { contract.Collisions c ram.old dir.old result ram.new dir.new }
 {
     if !regs::is_sound(ram, dir, c) {
         return AfterCall {
@@ -241,7 +241,7 @@ pub fn collisions(ram: &mut [u8; 8192], dir: &mut [u16; 1110], c: Card) -> After
 
 // An ID state, as the ID port left it, is seated as the card's own; a reset that is due is carried out.
 pub fn seat(ram: &[u8; 8192], dir: &[u16; 1110], c: Card, i: IdState) -> AfterCall
-    ensures { contract.seat c ram.now dir.now i result }
+    ensures { contract.Seat c ram.now dir.now i result }
 {
     if !regs::is_sound(ram, dir, c) {
         return AfterCall {
@@ -264,7 +264,7 @@ pub fn seat(ram: &[u8; 8192], dir: &[u16; 1110], c: Card, i: IdState) -> AfterCa
 
 // The interrupt line that the card drives: 3, 5, 7, 9, 10, 11, 12 or 15, and 0 for none.
 pub fn interrupt_line(ram: &[u8; 8192], dir: &[u16; 1110], c: Card) -> Read
-    ensures { contract.interrupt-line c ram.now dir.now result }
+    ensures { contract.InterruptLine c ram.now dir.now result }
 {
     if !regs::is_sound(ram, dir, c) {
         return Read::Refused(Refusal::StateUnsound);
@@ -275,7 +275,7 @@ pub fn interrupt_line(ram: &[u8; 8192], dir: &[u16; 1110], c: Card) -> Read
 
 // RX Status, whatever window is selected, and the unread bytes as a signed number: -3 to 1,792. An inactive card reads all ones, and 0 is told.
 pub fn rx_status(ram: &[u8; 8192], dir: &[u16; 1110], c: Card) -> RxStatus
-    ensures { contract.rx-status c ram.now dir.now result }
+    ensures { contract.TellsRxStatus c ram.now dir.now result }
 {
     if !regs::is_sound(ram, dir, c) {
         return RxStatus::Refused(Refusal::StateUnsound);

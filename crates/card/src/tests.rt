@@ -1,10 +1,10 @@
 // The tests of the card's public calls on their arguments. Each decides its definition.
 ghost use Rattle.std.specs.Prelude.{◌≡◌};
-ghost use Rattle.card_rules.specs.Tests.{isWord, is_byte, offWire, onWire};
+ghost use Rattle.card_rules.specs.Tests.{is_word, is_byte, off_wire, on_wire};
 
 // May a word be read or written at this offset?
 pub fn is_word(o: u16) -> bool
-    ensures { result ≡ isWord o }
+    ensures { result ≡ is_word o }
 {
     (o <= 15) & (o % 2 == 0)
 }
@@ -18,14 +18,14 @@ pub fn is_byte(window: u16, o: u16) -> bool
 
 // May the wire start a frame?
 pub fn off_wire(wire: u8) -> bool
-    ensures { result ≡ offWire wire }
+    ensures { result ≡ off_wire wire }
 {
     wire == 0
 }
 
 // May the wire bring a byte, or end a frame?
 pub fn on_wire(wire: u8) -> bool
-    ensures { result ≡ onWire wire }
+    ensures { result ≡ on_wire wire }
 {
     !(wire == 0)
 }

@@ -1,40 +1,40 @@
 -- Worked examples of the refusals, by computing. Assumes nothing.
 use mathlib.Core.Path.{◌≡◌, refl}
 use mathlib.Core.Bool.{true, false}
-use Rattle.card_rules.specs.Tests.{judged, isWord, is_byte, offWire, onWire}
+use Rattle.card_rules.specs.Tests.{judged, is_word, is_byte, off_wire, on_wire}
 
 -- 1 comes before 12
-unsound-first : judged false (isWord 0x10) 12 ≡ 1
+unsound-first : judged false (is_word 0x10) 12 ≡ 1
 unfolding judged
 unsound-first = refl
 
 -- 12: an offset above 0Fh, an odd offset for a word, a byte at 00h to 03h in window 1
-above : judged true (isWord 0x10) 12 ≡ 12
+above : judged true (is_word 0x10) 12 ≡ 12
 unfolding judged
 above = refl
 
-odd : judged true (isWord 0x0D) 12 ≡ 12
+odd : judged true (is_word 0x0D) 12 ≡ 12
 unfolding judged
 odd = refl
 
-data-byte : judged true (is_byte 1 0x03) 12 ≡ 12
+data_byte : judged true (is_byte 1 0x03) 12 ≡ 12
 unfolding judged
-data-byte = refl
+data_byte = refl
 
 -- .. but not at 04h, nor in another window
-timer-byte : judged true (is_byte 1 0x04) 12 ≡ 0
+timer_byte : judged true (is_byte 1 0x04) 12 ≡ 0
 unfolding judged
-timer-byte = refl
+timer_byte = refl
 
 station-byte : judged true (is_byte 2 0x00) 12 ≡ 0
 unfolding judged
 station-byte = refl
 
 -- 11: a start inside a frame, a byte without a start
-start-inside : judged true (offWire 1) 11 ≡ 11
+start_inside : judged true (off_wire 1) 11 ≡ 11
 unfolding judged
-start-inside = refl
+start_inside = refl
 
-byte-without : judged true (onWire 0) 11 ≡ 11
+byte_without : judged true (on_wire 0) 11 ≡ 11
 unfolding judged
-byte-without = refl
+byte_without = refl

@@ -4,58 +4,58 @@ use mathlib.Core.List.{List}
 use Prim.Native.Nat.{ℕ, ◌%◌}
 use Rattle.port_rules.specs.declared.IdState.{IdState}
 use Rattle.receive_rules.specs.declared.Receiver.{Receiver}
-use Rattle.receive_rules.specs.Update.{withReceiver}
+use Rattle.receive_rules.specs.Update.{with_receiver}
 use Rattle.transmit_rules.specs.declared.Outcomes.{Outcomes}
 use Rattle.transmit_rules.specs.Reports.{Reports}
 use Rattle.transmit_rules.specs.OutcomesView.{Reported}
-use Rattle.transmit_rules.specs.Tx.{withReports}
+use Rattle.transmit_rules.specs.Tx.{with_reports}
 use Rattle.card_rules.specs.declared.Select.{Select}
 use Rattle.card_rules.specs.declared.Lines.{Lines}
 use Rattle.card_rules.specs.declared.Config.{Config}
 use Rattle.card_rules.specs.declared.Prom.{Prom}
 use Rattle.card_rules.specs.declared.Card.{Card}
-use Rattle.card_rules.specs.Update.{withId, withSelect, withLines, withConfig, withProm, withRx, withTx}
-use Rattle.card_rules.specs.Groups.{cardId, cardSelect, cardLines, cardConfig, cardProm, cardReceiver, cardOutcomes}
+use Rattle.card_rules.specs.Update.{with_id, with_select, with_lines, with_config, with_prom, with_rx, with_tx}
+use Rattle.card_rules.specs.Groups.{card_id, card_select, card_lines, card_config, card_prom, card_receiver, card_outcomes}
 use Rattle.card_rules.specs.View.{view, Held, Is}
 
 module _ (c : Card) (ram dir : List ℕ) (h : Held c ram dir) where
   pub is_same : Is c ram dir (view c ram dir)
   is_same = record { shows = refl; held = h }
 
-  pub is-id : (v : IdState) → Is (cardId v c) ram dir (withId v (view c ram dir))
+  pub is_id : (v : IdState) → Is (card_id v c) ram dir (with_id v (view c ram dir))
   unfolding view
-  is-id v = record { shows = refl; held = record { ram-long = h.ram-long; dir-long = h.dir-long; frames = h.frames; packets = h.packets; statuses = h.statuses } }
+  is_id v = record { shows = refl; held = record { ram_long = h.ram_long; dir_long = h.dir_long; frames = h.frames; packets = h.packets; statuses = h.statuses } }
 
-  pub is-select : (v : Select) → Is (cardSelect v c) ram dir (withSelect v (view c ram dir))
+  pub is_select : (v : Select) → Is (card_select v c) ram dir (with_select v (view c ram dir))
   unfolding view
-  is-select v = record { shows = refl; held = record { ram-long = h.ram-long; dir-long = h.dir-long; frames = h.frames; packets = h.packets; statuses = h.statuses } }
+  is_select v = record { shows = refl; held = record { ram_long = h.ram_long; dir_long = h.dir_long; frames = h.frames; packets = h.packets; statuses = h.statuses } }
 
-  pub is-lines : (v : Lines) → Is (cardLines v c) ram dir (withLines v (view c ram dir))
+  pub is_lines : (v : Lines) → Is (card_lines v c) ram dir (with_lines v (view c ram dir))
   unfolding view
-  is-lines v = record { shows = refl; held = record { ram-long = h.ram-long; dir-long = h.dir-long; frames = h.frames; packets = h.packets; statuses = h.statuses } }
+  is_lines v = record { shows = refl; held = record { ram_long = h.ram_long; dir_long = h.dir_long; frames = h.frames; packets = h.packets; statuses = h.statuses } }
 
-  pub is-prom : (v : Prom) → Is (cardProm v c) ram dir (withProm v (view c ram dir))
+  pub is_prom : (v : Prom) → Is (card_prom v c) ram dir (with_prom v (view c ram dir))
   unfolding view
-  is-prom v = record { shows = refl; held = record { ram-long = h.ram-long; dir-long = h.dir-long; frames = h.frames; packets = h.packets; statuses = h.statuses } }
+  is_prom v = record { shows = refl; held = record { ram_long = h.ram_long; dir_long = h.dir_long; frames = h.frames; packets = h.packets; statuses = h.statuses } }
 
   -- a configuration with the same split
-  pub is-config : (v : Config) → v.second % 4 ≡ c.config.second % 4 → Is (cardConfig v c) ram dir (withConfig v (view c ram dir))
+  pub is_config : (v : Config) → v.second % 4 ≡ c.config.second % 4 → Is (card_config v c) ram dir (with_config v (view c ram dir))
   unfolding view
-  is-config v e =
+  is_config v e =
       record {
         shows = rw e;
-        held = record { ram-long = h.ram-long; dir-long = h.dir-long; frames = rw e h.frames; packets = rw e h.packets; statuses = h.statuses };
+        held = record { ram_long = h.ram_long; dir_long = h.dir_long; frames = rw e h.frames; packets = rw e h.packets; statuses = h.statuses };
       }
 
-  pub is-receiver : (v : Receiver) → Is (cardReceiver v c) ram dir (withRx (withReceiver v (view c ram dir).rx) (view c ram dir))
+  pub is_receiver : (v : Receiver) → Is (card_receiver v c) ram dir (with_rx (with_receiver v (view c ram dir).rx) (view c ram dir))
   unfolding view
-  is-receiver v = record { shows = refl; held = record { ram-long = h.ram-long; dir-long = h.dir-long; frames = h.frames; packets = h.packets; statuses = h.statuses } }
+  is_receiver v = record { shows = refl; held = record { ram_long = h.ram_long; dir_long = h.dir_long; frames = h.frames; packets = h.packets; statuses = h.statuses } }
 
   -- the sender's registers and the status stack
-  pub is-outcomes : (o : Outcomes) (q : Reports) → Reported o q → Is (cardOutcomes o c) ram dir (withTx (withReports q (view c ram dir).tx) (view c ram dir))
+  pub is_outcomes : (o : Outcomes) (q : Reports) → Reported o q → Is (card_outcomes o c) ram dir (with_tx (with_reports q (view c ram dir).tx) (view c ram dir))
   unfolding view
-  is-outcomes o q e =
+  is_outcomes o q e =
       record {
-        shows = ap (λ (r : Reports). withTx (withReports r (view c ram dir).tx) (view c ram dir)) e.tells;
-        held = record { ram-long = h.ram-long; dir-long = h.dir-long; frames = h.frames; packets = h.packets; statuses = e.stacked };
+        shows = ap (λ (r : Reports). with_tx (with_reports r (view c ram dir).tx) (view c ram dir)) e.tells;
+        held = record { ram_long = h.ram_long; dir_long = h.dir_long; frames = h.frames; packets = h.packets; statuses = e.stacked };
       }

@@ -12,29 +12,29 @@ use Rattle.bits.proofs.Tests.{neither}
 use Rattle.store.specs.Store as store
 use Rattle.receive_rules.specs.Frame.{Frame, Rx}
 use Rattle.receive_rules.proofs.Order.{frames-counted}
-use Rattle.receive_rules.proofs.Steps.{resized-same}
+use Rattle.receive_rules.proofs.Steps.{resized_same}
 use Rattle.transmit_rules.specs.declared.Fifo.{Fifo}
 use Rattle.transmit_rules.specs.Queue.{Queue}
 use Rattle.transmit_rules.proofs.Facts.{words_of}
 use Rattle.transmit_rules.proofs.Apart.{idle-packed, idle-queue}
-use Rattle.transmit_rules.specs.OutcomesView.{reportsOf}
+use Rattle.transmit_rules.specs.OutcomesView.{reports_of}
 use Rattle.transmit_rules.specs.Tx.{any}
 use Rattle.transmit_rules.proofs.Steps.{any_of}
 use Rattle.card_rules.specs.declared.Config.{Config}
 use Rattle.card_rules.specs.declared.Card.{Card}
-use Rattle.card_rules.specs.Update.{withConfig, withRx, withTx, configSecond}
-use Rattle.card_rules.specs.Room.{rxSize, txSize}
-use Rattle.card_rules.specs.Groups.{cardConfig, cardReceive, cardTransmit}
-use Rattle.card_rules.specs.View.{rxSizeOf, txSizeOf, view, Held, Is}
+use Rattle.card_rules.specs.Update.{with_config, with_rx, with_tx, config_second}
+use Rattle.card_rules.specs.Room.{rx_size, tx_size}
+use Rattle.card_rules.specs.Groups.{card_config, card_receive, card_transmit}
+use Rattle.card_rules.specs.View.{rx_size_of, tx_size_of, view, Held, Is}
 use Rattle.card_rules.proofs.Ranges.{tx-small}
 use Rattle.card_rules.proofs.Blank.{frames-packed}
-use Rattle.card_rules.proofs.Groups.{is-config}
-use Rattle.card_rules.specs.Write.{inUse, resplit}
+use Rattle.card_rules.proofs.Groups.{is_config}
+use Rattle.card_rules.specs.Write.{in_use, resplit}
 
 -- ---- the counts say whether a FIFO is in use
 
-used : (fs : List Frame) (ps : List store.Frame) (k : ℕ) → inUse fs ps k ≡ ((ltb 0 (length fs) || any ps) || ltb 0 k)
-unfolding inUse any
+used : (fs : List Frame) (ps : List store.Frame) (k : ℕ) → in_use fs ps k ≡ ((ltb 0 (length fs) || any ps) || ltb 0 k)
+unfolding in_use any
 used [] [] zero = refl
 used [] [] (suc k) = sym (lt-ltb 0 (suc k) (omega arith))
 used [] (p ∷ ps) k = refl
@@ -44,8 +44,8 @@ used (f ∷ fs) ps k = rw (lt-ltb 0 (suc (length fs)) (omega arith))
 abbrev pub freed : ℕ → ℕ → Card → Card
 freed rx tx c =
     let f : Fifo = c.transmit.fifo in
-    cardReceive (record { receiver = c.receive.receiver; free = rx; frames = c.receive.frames })
-    (cardTransmit (record { fifo = record { failed = f.failed; free = tx; packets = f.packets; words = f.words }; outcomes = c.transmit.outcomes }) c)
+    card_receive (record { receiver = c.receive.receiver; free = rx; frames = c.receive.frames })
+    (card_transmit (record { fifo = record { failed = f.failed; free = tx; packets = f.packets; words = f.words }; outcomes = c.transmit.outcomes }) c)
 
 -- a frame, a packet or a word of one is counted
 abbrev pub counted : Card → Bool
@@ -66,34 +66,34 @@ unused c e =
     record { frames = none _ q.0; packets = none _ q.1; words = none _ p.1 }
 
 module _ (c : Card) (ram dir : List ℕ) (h : Held c ram dir) where
-  in_use : inUse (view c ram dir).rx.frames (view c ram dir).tx.queue.packets (view c ram dir).tx.queue.part.words ≡ counted c
+  in_use_lem : in_use (view c ram dir).rx.frames (view c ram dir).tx.queue.packets (view c ram dir).tx.queue.part.words ≡ counted c
   unfolding view
-  in_use =
+  in_use_lem =
       used (view c ram dir).rx.frames (view c ram dir).tx.queue.packets (view c ram dir).tx.queue.part.words
       ∙ rw (
-        frames-counted (rxSizeOf c) c.receive.frames ram dir h.frames.lies,
-        any_of (txSizeOf c) c.transmit.fifo.packets ram dir h.packets.lies,
-        words_of (txSizeOf c) c.transmit.fifo.packets c.transmit.fifo.words ram dir,
+        frames-counted (rx_size_of c) c.receive.frames ram dir h.frames.lies,
+        any_of (tx_size_of c) c.transmit.fifo.packets ram dir h.packets.lies,
+        words_of (tx_size_of c) c.transmit.fifo.packets c.transmit.fifo.words ram dir,
       )
 
   -- any configuration, while no FIFO is in use; all of each side's new part is free
-  is-config-unused : Unused c → (v : Config) (rx tx : ℕ) → rx ≡ rxSize (v.second % 4) → tx ≡ txSize (v.second % 4)
-      → Is (cardConfig v (freed rx tx c)) ram dir (withConfig v (view c ram dir))
+  is_config_unused : Unused c → (v : Config) (rx tx : ℕ) → rx ≡ rx_size (v.second % 4) → tx ≡ tx_size (v.second % 4)
+      → Is (card_config v (freed rx tx c)) ram dir (with_config v (view c ram dir))
   unfolding view
-  is-config-unused u v rx tx er et =
+  is_config_unused u v rx tx er et =
       let new : ℕ = v.second % 4 in
       record {
         shows =
-            ap₂ (λ (x : Rx) (q : Queue). withConfig v (withTx (record { queue = q; reports = reportsOf c.transmit.outcomes }) (withRx x (view c ram dir))))
-            (resized-same (rxSizeOf c) (rxSize new) c.receive ram dir u.frames)
-            (idle-queue (txSize new) (freed rx tx c).transmit.fifo ram dir u.packets u.words
-            ∙ sym (idle-queue (txSizeOf c) c.transmit.fifo ram dir u.packets u.words));
+            ap₂ (λ (x : Rx) (q : Queue). with_config v (with_tx (record { queue = q; reports = reports_of c.transmit.outcomes }) (with_rx x (view c ram dir))))
+            (resized_same (rx_size_of c) (rx_size new) c.receive ram dir u.frames)
+            (idle-queue (tx_size new) (freed rx tx c).transmit.fifo ram dir u.packets u.words
+            ∙ sym (idle-queue (tx_size_of c) c.transmit.fifo ram dir u.packets u.words));
         held =
             record {
-              ram-long = h.ram-long;
-              dir-long = h.dir-long;
-              frames = rw (u.frames, er) (frames-packed new ram dir h.ram-long h.dir-long);
-              packets = idle-packed (txSize new) (freed rx tx c).transmit.fifo ram dir u.packets u.words et (tx-small new) (omega (arith, h.ram-long)) (omega (arith, h.dir-long));
+              ram_long = h.ram_long;
+              dir_long = h.dir_long;
+              frames = rw (u.frames, er) (frames-packed new ram dir h.ram_long h.dir_long);
+              packets = idle-packed (tx_size new) (freed rx tx c).transmit.fifo ram dir u.packets u.words et (tx-small new) (omega (arith, h.ram_long)) (omega (arith, h.dir_long));
               statuses = h.statuses;
             };
       }
@@ -101,12 +101,12 @@ module _ (c : Card) (ram dir : List ℕ) (h : Held c ram dir) where
   -- ---- the word, as it is left
 
   module _ (v : ℕ) where
-    pub is-kept : counted c ≡ true
-        → Is (cardConfig (configSecond (v / 4 * 4 + c.config.second % 4) c.config) c) ram dir (resplit v (view c ram dir))
+    pub is_kept_lem : counted c ≡ true
+        → Is (card_config (config_second (v / 4 * 4 + c.config.second % 4) c.config) c) ram dir (resplit v (view c ram dir))
     unfolding view resplit
-    is-kept e = rw (in_use ∙ e) (is-config c ram dir h _ (omega arith))
+    is_kept_lem e = rw (in_use_lem ∙ e) (is_config c ram dir h _ (omega arith))
 
-    pub is-split : (rx tx : ℕ) → rx ≡ rxSize (v % 4) → tx ≡ txSize (v % 4) → counted c ≡ false
-        → Is (cardConfig (configSecond v c.config) (freed rx tx c)) ram dir (resplit v (view c ram dir))
+    pub is_split : (rx tx : ℕ) → rx ≡ rx_size (v % 4) → tx ≡ tx_size (v % 4) → counted c ≡ false
+        → Is (card_config (config_second v c.config) (freed rx tx c)) ram dir (resplit v (view c ram dir))
     unfolding view resplit
-    is-split rx tx er et e = rw (in_use ∙ e) (is-config-unused (unused c e) _ rx tx er et)
+    is_split rx tx er et e = rw (in_use_lem ∙ e) (is_config_unused (unused c e) _ rx tx er et)

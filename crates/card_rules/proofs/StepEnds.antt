@@ -6,17 +6,17 @@ use Prim.Native.Nat.{ℕ, ◌%◌, ◌/◌, ◌-◌, ◌≤◌, ◌<◌}
 use native.Mathlib.Omega.{arith}
 use borrow.Author.Tests.{ltb-true, ltb-false, eqb-true, eq-eqb, ne_eqb}
 use lib.Dec.{ltb, eqb}
-use Rattle.bits.proofs.Tests.{both, by-test, join, never}
-use Rattle.receive_rules.specs.Reading.{dataWord, afterRead}
+use Rattle.bits.proofs.Tests.{both, by_test, join, never}
+use Rattle.receive_rules.specs.Reading.{data_word, after_read}
 use Rattle.card_rules.specs.declared.Card.{Card}
 use Rattle.card_rules.specs.Adapter.{Adapter}
-use Rattle.card_rules.specs.Update.{withRx}
+use Rattle.card_rules.specs.Update.{with_rx}
 use Rattle.card_rules.specs.Settle.{settle}
 use Rattle.card_rules.specs.Sound.{kept}
 use Rattle.card_rules.specs.View.{view, Held, Sound, Is, Stands}
 use Rattle.card_rules.proofs.Sides.{settle-stays}
 use Rattle.card_rules.proofs.CommandKeeps.{Keeping}
-use Rattle.card_rules.specs.Read.{window1, word_at, afterWord}
+use Rattle.card_rules.specs.Read.{window1, word_at, after_word}
 use Rattle.card_rules.specs.Access.{Access, ReadWord, ReadByte, Step, step, byte_at, effect, ones, access}
 use Rattle.card_rules.specs.Gives.{Gives}
 
@@ -25,8 +25,8 @@ use Rattle.card_rules.specs.Gives.{Gives}
 pub unsettled : (r : Card) (ram dir : List ℕ) (b : Adapter) → Is r ram dir b → Keeping b → Held r ram dir × (kept (view r ram dir) ≡ true)
 unsettled r ram dir b i k = (i.held, ap kept i.shows ∙ k.is)
 
-pub settled-as : (r q : Card) (ram dir : List ℕ) (b : Adapter) → Is r ram dir b → Stands q ram dir (settle (view r ram dir)) → Stands q ram dir (settle b)
-settled-as r q ram dir b i s = record { shows = s.shows ∙ ap settle i.shows; sound = s.sound }
+pub settled_as : (r q : Card) (ram dir : List ℕ) (b : Adapter) → Is r ram dir b → Stands q ram dir (settle (view r ram dir)) → Stands q ram dir (settle b)
+settled_as r q ram dir b i s = record { shows = s.shows ∙ ap settle i.shows; sound = s.sound }
 
 -- ---- an access of an inactive card, and of an active one
 
@@ -40,9 +40,9 @@ module _ (x : Access) (a : Adapter) where
   awake e = rw e
 
 -- a read of the data port
-data-word : (o : ℕ) (b : Adapter) → (ltb o 4 && eqb b.select.window 1) ≡ true → word_at o b ≡ dataWord b.rx
+data_word_lem : (o : ℕ) (b : Adapter) → (ltb o 4 && eqb b.select.window 1) ≡ true → word_at o b ≡ data_word b.rx
 unfolding word_at window1
-data-word o b y =
+data_word_lem o b y =
     let p = both (ltb o 4) (eqb b.select.window 1) y in
     let l : o < 4 = ltb-true o 4 p.0 in
     let w : b.select.window ≡ 1 = eqb-true b.select.window 1 p.1 in
@@ -74,40 +74,40 @@ module _ (c : Card) (ram dir : List ℕ) (s : Sound c ram dir) where
 
   -- ---- the word reads
 
-  after-plain : (o : ℕ) → (ltb o 4 && eqb c.select.window 1) ≡ false → afterWord o (view c ram dir) ≡ view c ram dir
-  unfolding afterWord view
-  after-plain o n = ap (λ (b : Bool). cond b (withRx (afterRead (view c ram dir).rx) (view c ram dir)) (view c ram dir)) n
+  after-plain : (o : ℕ) → (ltb o 4 && eqb c.select.window 1) ≡ false → after_word o (view c ram dir) ≡ view c ram dir
+  unfolding after_word view
+  after-plain o n = ap (λ (b : Bool). cond b (with_rx (after_read (view c ram dir).rx) (view c ram dir)) (view c ram dir)) n
 
-  after-data : (o : ℕ) → (ltb o 4 && eqb c.select.window 1) ≡ true → afterWord o (view c ram dir) ≡ withRx (afterRead (view c ram dir).rx) (view c ram dir)
-  unfolding afterWord view
-  after-data o y = ap (λ (b : Bool). cond b (withRx (afterRead (view c ram dir).rx) (view c ram dir)) (view c ram dir)) y
+  after_data : (o : ℕ) → (ltb o 4 && eqb c.select.window 1) ≡ true → after_word o (view c ram dir) ≡ with_rx (after_read (view c ram dir).rx) (view c ram dir)
+  unfolding after_word view
+  after_data o y = ap (λ (b : Bool). cond b (with_rx (after_read (view c ram dir).rx) (view c ram dir)) (view c ram dir)) y
 
   pub gives-word : (o v : ℕ) → c.id.active ≡ true → (ltb o 4 && eqb c.select.window 1) ≡ false → v ≡ word_at o (view c ram dir)
       → Gives c v ram dir (access (ReadWord o) (view c ram dir))
   unfolding effect
   gives-word o v e n h = gives-value (ReadWord o) v e (after-plain o n) h
 
-  pub gives-data : (o v : ℕ) (q : Card) → c.id.active ≡ true → (ltb o 4 && eqb c.select.window 1) ≡ true → v ≡ dataWord (view c ram dir).rx
-      → Stands q ram dir (settle (withRx (afterRead (view c ram dir).rx) (view c ram dir))) → Gives q v ram dir (access (ReadWord o) (view c ram dir))
+  pub gives_data : (o v : ℕ) (q : Card) → c.id.active ≡ true → (ltb o 4 && eqb c.select.window 1) ≡ true → v ≡ data_word (view c ram dir).rx
+      → Stands q ram dir (settle (with_rx (after_read (view c ram dir).rx) (view c ram dir))) → Gives q v ram dir (access (ReadWord o) (view c ram dir))
   unfolding effect view
-  gives-data o v q e y h t =
+  gives_data o v q e y h t =
       subst⁻¹ (λ (u : Step). Gives q v ram dir u) (awake (ReadWord o) (view c ram dir) e)
-      (record { value = h ∙ sym (data-word o (view c ram dir) y); stands = record { shows = t.shows ∙ ap settle (sym (after-data o y)); sound = t.sound } })
+      (record { value = h ∙ sym (data_word_lem o (view c ram dir) y); stands = record { shows = t.shows ∙ ap settle (sym (after_data o y)); sound = t.sound } })
 
   -- ---- the byte reads
 
-  pub gives-low : (o v : ℕ) → c.id.active ≡ true → o % 2 ≡ 0 → v ≡ word_at o (view c ram dir) → Gives c (v % 256) ram dir (access (ReadByte o) (view c ram dir))
+  pub gives_low : (o v : ℕ) → c.id.active ≡ true → o % 2 ≡ 0 → v ≡ word_at o (view c ram dir) → Gives c (v % 256) ram dir (access (ReadByte o) (view c ram dir))
   unfolding effect byte_at
-  gives-low o v e h w = gives-value (ReadByte o) (v % 256) e refl (rw (eq-eqb (o % 2) 0 h) (ap (λ (n : ℕ). n % 256) w))
+  gives_low o v e h w = gives-value (ReadByte o) (v % 256) e refl (rw (eq-eqb (o % 2) 0 h) (ap (λ (n : ℕ). n % 256) w))
 
-  pub gives-high : (o v : ℕ) → c.id.active ≡ true → (o % 2 ≡ 0 → ⊥) → v ≡ word_at (o - 1) (view c ram dir) → Gives c (v / 256) ram dir (access (ReadByte o) (view c ram dir))
+  pub gives_high : (o v : ℕ) → c.id.active ≡ true → (o % 2 ≡ 0 → ⊥) → v ≡ word_at (o - 1) (view c ram dir) → Gives c (v / 256) ram dir (access (ReadByte o) (view c ram dir))
   unfolding effect byte_at
-  gives-high o v e h w = gives-value (ReadByte o) (v / 256) e refl (rw (ne_eqb (o % 2) 0 h) (ap (λ (n : ℕ). n / 256) w))
+  gives_high o v e h w = gives-value (ReadByte o) (v / 256) e refl (rw (ne_eqb (o % 2) 0 h) (ap (λ (n : ℕ). n / 256) w))
 
 -- a read that is none of the data port's
-pub beside-data : (o w : ℕ) → (ltb o 4 && eqb w 1) ≡ false → w ≡ 1 → 4 ≤ o
-beside-data o w n e =
-    by-test (ltb o 4) (λ y. never (sym n ∙ join (ltb o 4) (eqb w 1) y (eq-eqb w 1 e))) (λ l. ltb-false o 4 l)
+pub beside_data : (o w : ℕ) → (ltb o 4 && eqb w 1) ≡ false → w ≡ 1 → 4 ≤ o
+beside_data o w n e =
+    by_test (ltb o 4) (λ y. never (sym n ∙ join (ltb o 4) (eqb w 1) y (eq-eqb w 1 e))) (λ l. ltb-false o 4 l)
 
 -- ---- the writes
 

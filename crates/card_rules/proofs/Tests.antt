@@ -3,6 +3,6 @@ use mathlib.Core.Path.{◌≡◌, refl}
 use mathlib.Core.Bool.{Bool, true, false, cond, ◌&&◌}
 use Rattle.card_rules.specs.Adapter.{Adapter}
 
-pub one-test : (a b : Bool) (x y : Adapter) → cond a (cond b x y) y ≡ cond (a && b) x y
-one-test true b x y = refl
-one-test false b x y = refl
+pub one_test : (a b : Bool) (x y : Adapter) → cond a (cond b x y) y ≡ cond (a && b) x y
+one_test true b x y = refl
+one_test false b x y = refl

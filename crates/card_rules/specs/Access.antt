@@ -2,8 +2,8 @@
 use Rattle.std.specs.Prelude.{cond, ℕ, ◌-◌, ◌/◌, ◌%◌, eqb}
 use Rattle.card_rules.specs.Adapter.{Adapter}
 use Rattle.card_rules.specs.Settle.{settle}
-use Rattle.card_rules.specs.Read.{word_at, afterWord}
-use Rattle.card_rules.specs.Write.{writeWord, writeByte}
+use Rattle.card_rules.specs.Read.{word_at, after_word}
+use Rattle.card_rules.specs.Write.{write_word, write_byte}
 
 pub data Access : Type 0 where
   ReadWord : ℕ → Access
@@ -24,10 +24,10 @@ unfoldable pub byte_at : ℕ → Adapter → ℕ
 byte_at o a = cond (eqb (o % 2) 0) (word_at o a % 256) (word_at (o - 1) a / 256)
 
 unfoldable pub effect : Access → Adapter → Step
-effect (ReadWord o) a = step (word_at o a) (afterWord o a)
+effect (ReadWord o) a = step (word_at o a) (after_word o a)
 effect (ReadByte o) a = step (byte_at o a) a
-effect (WriteWord o v) a = step 0 (writeWord o v a)
-effect (WriteByte o v) a = step 0 (writeByte o v a)
+effect (WriteWord o v) a = step 0 (write_word o v a)
+effect (WriteByte o v) a = step 0 (write_byte o v a)
 
 -- all ones
 abbrev pub ones : Access → ℕ

@@ -3,7 +3,7 @@ use Rattle.std.specs.Prelude.{◌≡◌, List, ◌++◌, ℕ, zero, suc, length,
 use Rattle.refusal.specs.Number.{number_of}
 -- which refusal comes
 unfoldable pub use Rattle.card_rules.specs.Tests.{judged}
-pub use Rattle.card_rules.specs.Tests.{isWord, is_byte, offWire, onWire}
+pub use Rattle.card_rules.specs.Tests.{is_word, is_byte, off_wire, on_wire}
 use Rattle.card_rules.specs.declared.Card.{Card}
 use Rattle.card_rules.specs.Adapter.{Adapter}
 use Rattle.card_rules.specs.View.{Stands}
@@ -20,17 +20,17 @@ pub data Reply : Type 0 where
   done : Reply
   value : ℕ → Reply
 
-abbrev pub readReply : Read → Reply
-readReply (read.Value v) = value v
-readReply (read.Refused why) = refused (number_of why)
+abbrev pub read_reply : Read → Reply
+read_reply (read.Value v) = value v
+read_reply (read.Refused why) = refused (number_of why)
 
-abbrev pub doneReply : Done → Reply
-doneReply finished.Done = done
-doneReply (finished.Refused why) = refused (number_of why)
+abbrev pub done_reply : Done → Reply
+done_reply finished.Done = done
+done_reply (finished.Refused why) = refused (number_of why)
 
-abbrev pub toldReply : Told → Reply
-toldReply (told.Told n) = value n
-toldReply (told.Refused why) = refused (number_of why)
+abbrev pub told_reply : Told → Reply
+told_reply (told.Told n) = value n
+told_reply (told.Refused why) = refused (number_of why)
 
 -- a refusal, or the answer of the step
 unfoldable pub replying : ℕ → Reply → Reply

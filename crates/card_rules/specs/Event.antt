@@ -4,27 +4,27 @@ use Rattle.port_rules.specs.declared.IdState.{IdState}
 use Rattle.receive_rules.specs.Wire as wire
 use Rattle.transmit_rules.specs.Tx as tx
 use Rattle.card_rules.specs.Adapter.{Adapter}
-use Rattle.card_rules.specs.Update.{withRx, withTx}
-use Rattle.card_rules.specs.Room.{rxRoom}
+use Rattle.card_rules.specs.Update.{with_rx, with_tx}
+use Rattle.card_rules.specs.Room.{rx_room}
 use Rattle.card_rules.specs.Settle.{settle}
 -- whether a frame is taken, and a seated ID state
 pub use Rattle.card_rules.specs.Effect.{taken}
 unfoldable pub use Rattle.card_rules.specs.Seat.{seated}
 
-unfoldable pub wireStart : List ℕ → Adapter → Adapter
-wireStart first a = settle (withRx (wire.wireStart (rxRoom a) (taken first a) first a.rx) a)
+unfoldable pub wire_start : List ℕ → Adapter → Adapter
+wire_start first a = settle (with_rx (wire.wire_start (rx_room a) (taken first a) first a.rx) a)
 
-unfoldable pub wireByte : ℕ → Adapter → Adapter
-wireByte b a = settle (withRx (wire.wireByte (rxRoom a) b a.rx) a)
+unfoldable pub wire_byte : ℕ → Adapter → Adapter
+wire_byte b a = settle (with_rx (wire.wire_byte (rx_room a) b a.rx) a)
 
-unfoldable pub wireEnd : Bool → Bool → Adapter → Adapter
-wireEnd check alignment a = settle (withRx (wire.wireEnd check alignment a.rx) a)
+unfoldable pub wire_end : Bool → Bool → Adapter → Adapter
+wire_end check alignment a = settle (with_rx (wire.wire_end check alignment a.rx) a)
 
 unfoldable pub success : Adapter → Adapter
-success a = settle (withTx (tx.success a.tx) a)
+success a = settle (with_tx (tx.success a.tx) a)
 
 unfoldable pub collisions : Adapter → Adapter
-collisions a = settle (withTx (tx.collisions a.tx) a)
+collisions a = settle (with_tx (tx.collisions a.tx) a)
 
 unfoldable pub seat : IdState → Adapter → Adapter
 seat i a = settle (seated i a)

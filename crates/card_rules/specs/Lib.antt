@@ -34,4 +34,4 @@ pub mod RxStatus
 pub mod Tests
 -- the public calls
 pub mod Calls
-pub mod Contracts
+pub mod CardContracts

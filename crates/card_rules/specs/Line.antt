@@ -11,9 +11,9 @@ abbrev pub is_line : ℕ → Bool
 is_line n = eqb n 3 || (eqb n 5 || (eqb n 7 || (eqb n 9 || (eqb n 10 || (eqb n 11 || (eqb n 12 || eqb n 15))))))
 
 -- The drivers are enabled by ENA, bit 0 of Configuration Control, and disabled while window 0 is selected.
-abbrev pub isDriving : Adapter → Bool
-isDriving a = a.config.enabled && (not (eqb a.select.window 0) && is_line (irq a.config.resource))
+abbrev pub is_driving : Adapter → Bool
+is_driving a = a.config.enabled && (not (eqb a.select.window 0) && is_line (irq a.config.resource))
 
 -- The line that is driven high, while the Interrupt Latch is set; 0 if none is.
-unfoldable pub interruptLine : Adapter → ℕ
-interruptLine a = cond (a.lines.latch && isDriving a) (irq a.config.resource) 0
+unfoldable pub interrupt_line : Adapter → ℕ
+interrupt_line a = cond (a.lines.latch && is_driving a) (irq a.config.resource) 0

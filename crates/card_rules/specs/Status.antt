@@ -39,11 +39,11 @@ low_bits visible f =
     + weigh 64 (shows 64 visible f.requested)
 
 -- Bits 15-13 hold the window; bit 12 is 0, and so are 11 to 8.
-unfoldable pub statusOf : Select → Flags → ℕ
-statusOf s f = s.window * 8192 + low_bits s.zero f
+unfoldable pub status_of : Select → Flags → ℕ
+status_of s f = s.window * 8192 + low_bits s.zero f
 
-abbrev pub statusWord : Adapter → ℕ
-statusWord a = statusOf a.select (flags a)
+abbrev pub status_word : Adapter → ℕ
+status_word a = status_of a.select (flags a)
 
 -- a flag that is in the interrupt mask and visible
 abbrev pub rises : Select → ℕ → Bool → Bool

@@ -6,15 +6,15 @@ unfoldable pub judged : Bool → Bool → ℕ → ℕ
 judged sound ok number = cond sound (cond ok 0 number) 1
 
 -- 12: register offset above 0Fh, odd offset for a word, a byte access at 00h to 03h in window 1.
-abbrev pub isWord : ℕ → Bool
-isWord o = leb o 15 && eqb (o % 2) 0
+abbrev pub is_word : ℕ → Bool
+is_word o = leb o 15 && eqb (o % 2) 0
 
 abbrev pub is_byte : ℕ → ℕ → Bool
 is_byte window o = leb o 15 && not (ltb o 4 && eqb window 1)
 
 -- 11: a byte or an end without a start, a start inside a frame.
-abbrev pub offWire : ℕ → Bool
-offWire wire = eqb wire 0
+abbrev pub off_wire : ℕ → Bool
+off_wire wire = eqb wire 0
 
-abbrev pub onWire : ℕ → Bool
-onWire wire = not (eqb wire 0)
+abbrev pub on_wire : ℕ → Bool
+on_wire wire = not (eqb wire 0)

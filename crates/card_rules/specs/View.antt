@@ -6,15 +6,15 @@ use Rattle.transmit_rules.specs.QueueView as fifo
 use Rattle.transmit_rules.specs.OutcomesView.{Stacked}
 use Rattle.card_rules.specs.declared.Card.{Card}
 use Rattle.card_rules.specs.Adapter.{Adapter}
-use Rattle.card_rules.specs.Room.{txSize, rxSize}
-use Rattle.card_rules.specs.Settle.{settleSides}
-use Rattle.card_rules.specs.Sound.{sound, registersSound, latchSettled}
+use Rattle.card_rules.specs.Room.{tx_size, rx_size}
+use Rattle.card_rules.specs.Settle.{settle_sides}
+use Rattle.card_rules.specs.Sound.{sound, registers_sound, latch_settled}
 
-abbrev pub rxSizeOf : Card → ℕ
-rxSizeOf c = rxSize (c.config.second % 4)
+abbrev pub rx_size_of : Card → ℕ
+rx_size_of c = rx_size (c.config.second % 4)
 
-abbrev pub txSizeOf : Card → ℕ
-txSizeOf c = txSize (c.config.second % 4)
+abbrev pub tx_size_of : Card → ℕ
+tx_size_of c = tx_size (c.config.second % 4)
 
 -- What a card and its memory are. The view leaves out the bytes outside the stored frames and packets, and the entries past a count.
 unfoldable pub view : Card → List ℕ → List ℕ → Adapter
@@ -25,16 +25,16 @@ view c ram dir =
       lines = c.lines;
       config = c.config;
       prom = c.prom;
-      rx = rx.rxOf (rxSizeOf c) c.receive ram dir;
-      tx = tx.txOf (txSizeOf c) c.transmit ram dir;
+      rx = rx.rx_of (rx_size_of c) c.receive ram dir;
+      tx = tx.tx_of (tx_size_of c) c.transmit ram dir;
     }
 
 -- The memory has its size, and frames, packets and statuses lie in their places.
 pub record Held (c : Card) (ram dir : List ℕ) : Type 0 where
-  pub ram-long : length ram ≡ 8192
-  pub dir-long : length dir ≡ 1110
-  pub frames : rx.Packed (rxSizeOf c) c.receive ram dir
-  pub packets : fifo.Packed (txSizeOf c) c.transmit.fifo ram dir
+  pub ram_long : length ram ≡ 8192
+  pub dir_long : length dir ≡ 1110
+  pub frames : rx.Packed (rx_size_of c) c.receive ram dir
+  pub packets : fifo.Packed (tx_size_of c) c.transmit.fifo ram dir
   pub statuses : Stacked c.transmit.outcomes
 
 pub record Sound (c : Card) (ram dir : List ℕ) : Type 0 where
@@ -61,13 +61,13 @@ pub record Stands (r : Card) (ram dir : List ℕ) (a : Adapter) : Type 0 where
 
 -- r is c with RX Early and TX Available settled, and its receive side is sound
 pub record SettlesSides (c r : Card) (ram dir : List ℕ) : Type 0 where
-  pub shows : view r ram dir ≡ settleSides (view c ram dir)
+  pub shows : view r ram dir ≡ settle_sides (view c ram dir)
   pub held : Held r ram dir
-  pub rx-sound : rx.Sound (rxSizeOf r) r.receive ram dir
+  pub rx_sound_is : rx.Sound (rx_size_of r) r.receive ram dir
 
 -- The test that a call makes of what it is handed.
-unfoldable pub soundCard : Card → List ℕ → List ℕ → Bool
-soundCard c ram dir =
-    rx.soundSide (rxSizeOf c) c.receive ram dir
-    && (tx.soundSide (txSizeOf c) c.transmit ram dir
-    && (registersSound (view c ram dir) && latchSettled (view c ram dir)))
+unfoldable pub sound_card : Card → List ℕ → List ℕ → Bool
+sound_card c ram dir =
+    rx.sound_side (rx_size_of c) c.receive ram dir
+    && (tx.sound_side (tx_size_of c) c.transmit ram dir
+    && (registers_sound (view c ram dir) && latch_settled (view c ram dir)))

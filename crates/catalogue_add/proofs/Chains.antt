@@ -7,12 +7,12 @@ use native.Mathlib.Omega.{arith}
 use lib.ListN.{length, take, drop, length-append, length-drop}
 use lib.Seq.{length-take-le}
 use Rattle.catalogue_rules.specs.Field.{field, bytes_of}
-use Rattle.catalogue_rules.specs.Archive.{addressIn}
-use Rattle.catalogue_rules.specs.Edit.{versionFields}
+use Rattle.catalogue_rules.specs.Archive.{address_in}
+use Rattle.catalogue_rules.specs.Edit.{version_fields}
 use Rattle.catalogue_rules.specs.Put.{put_at}
 use Rattle.catalogue_rules.proofs.Chain.{both-put, version-length}
 
-pub card-length : (image : List ℕ) → length image ≡ 128 → length (bytes_of (field 1 (addressIn image) ∷ versionFields 1 image)) ≡ 145
+pub card-length : (image : List ℕ) → length image ≡ 128 → length (bytes_of (field 1 (address_in image) ∷ version_fields 1 image)) ≡ 145
 unfolding bytes_of
 card-length image e = omega (arith, version-length 1 image e)
 
@@ -23,9 +23,9 @@ module _ (area a b : List ℕ) {one two : ℕ} {first second : List ℕ} (n : on
       both-put area 0 (a ++ b) c {behind = two} (omega arith) (omega arith) (both-put area 0 a b (omega arith) n e f) g
       ∙ ap (put_at area 0) (append_assoc a b c)
 
-  pub four-put : (c d : List ℕ) {three : ℕ} {third fourth : List ℕ} → length a + (length b + (length c + length d)) ≤ length area
+  pub four_put : (c d : List ℕ) {three : ℕ} {third fourth : List ℕ} → length a + (length b + (length c + length d)) ≤ length area
       → three ≡ two + length c → third ≡ put_at second two c → fourth ≡ put_at third three d → fourth ≡ put_at area 0 (a ++ (b ++ (c ++ d)))
-  four-put c d {three} fits k g h =
+  four_put c d {three} fits k g h =
       let l : length (a ++ b) ≡ length a + length b = length-append a b in
       let s : length (a ++ (b ++ c)) ≡ length a + (length b + length c) = omega (arith, length-append a (b ++ c), length-append b c) in
       both-put area 0 (a ++ (b ++ c)) d {behind = three} (omega arith) (omega arith) (three-put c (omega arith) g) h

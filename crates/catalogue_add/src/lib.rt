@@ -5,11 +5,11 @@ mod write;
 ghost use Rattle.std.specs.Prelude.{◌≡◌, false, true, ◌+◌, ◌<◌, ◌≤◌, length};
 ghost use Rattle.catalogue_rules.specs.Field.{fields_of};
 ghost use Rattle.catalogue_rules.specs.Turns.{address_of};
-ghost use Rattle.catalogue_rules.specs.Reading.{addressesOf, isAmong, parsed};
-ghost use Rattle.catalogue_rules.specs.Archive.{addressIn};
-ghost use Rattle.catalogue_rules.specs.Edit.{onCatalogue, addedTo};
+ghost use Rattle.catalogue_rules.specs.Reading.{addresses_of, is_among, parsed};
+ghost use Rattle.catalogue_rules.specs.Archive.{address_in};
+ghost use Rattle.catalogue_rules.specs.Edit.{on_catalogue, added_to};
 ghost use Rattle.catalogue_rules.specs.PutContracts.{Writes, Adds};
-ghost use Rattle.catalogue_put.specs.Places.{cardPlace};
+ghost use Rattle.catalogue_put.specs.Places.{card_place};
 ghost use Rattle.catalogue_add.specs.Taken.{Parsed};
 
 use catalogue_rules::{Judged, Seek, Written};
@@ -18,7 +18,7 @@ use refusal::Refusal;
 
 // The node address of an image: words 00h to 02h.
 pub fn address_of(image: &[u8]) -> u64
-    ensures { result ≡ address_of (addressIn image.now) }
+    ensures { result ≡ address_of (address_in image.now) }
 {
     let high = image_check::word_at(image, WordOffset(0)) as u64;
     let middle = image_check::word_at(image, WordOffset(1)) as u64;
@@ -29,9 +29,9 @@ pub fn address_of(image: &[u8]) -> u64
 // A card's first version.
 fn add_card(file: &[u8], cards: usize, fields: usize, image: &[u8], out: &mut [u8]) -> Written
     requires parsed { Parsed file.now cards fields }
-    requires file_value { isAmong (address_of (addressIn image.now)) (addressesOf (fields_of file.now)) ≡ false }
+    requires file_value { is_among (address_of (address_in image.now)) (addresses_of (fields_of file.now)) ≡ false }
     requires image_len { (length image.now ≡ 128) × (length file.now + 145 ≤ length out.old) }
-    ensures { Writes (onCatalogue (parsed file.now) (addedTo image.now)) result out.old out.new }
+    ensures { Writes (on_catalogue (parsed file.now) (added_to image.now)) result out.old out.new }
 {
     if (64 <= cards) | (65532 < fields) {
         return Written::Refused(Refusal::NoPlace);
@@ -67,10 +67,10 @@ fn add_version(
     out: &mut [u8],
 ) -> Written
     requires parsed { Parsed file.now cards fields }
-    requires file_value { isAmong (address_of (addressIn image.now)) (addressesOf (fields_of file.now)) ≡ true }
-    requires at_value { at ≡ cardPlace (address_of (addressIn image.now)) (fields_of file.now) }
+    requires file_value { is_among (address_of (address_in image.now)) (addresses_of (fields_of file.now)) ≡ true }
+    requires at_value { at ≡ card_place (address_of (address_in image.now)) (fields_of file.now) }
     requires image_len { (length image.now ≡ 128) × (length file.now + 145 ≤ length out.old) }
-    ensures { Writes (onCatalogue (parsed file.now) (addedTo image.now)) result out.old out.new }
+    ensures { Writes (on_catalogue (parsed file.now) (added_to image.now)) result out.old out.new }
 {
     let versions = catalogue_put::versions(file, at);
     let last = catalogue_put::last_number(file, at);

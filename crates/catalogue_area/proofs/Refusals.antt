@@ -6,98 +6,98 @@ use mathlib.Core.Bool.{Bool, true, false, ◌||◌, not}
 use mathlib.Core.List.{List, [], ◌∷◌}
 use lib.ListN.{length}
 use lib.Dec.{eqb}
-use Rattle.bits.proofs.Tests.{never, of-cond}
+use Rattle.bits.proofs.Tests.{never, of_cond}
 use Rattle.refusal.specs.declared.Refusal.{Refusal}
 use Rattle.refusal.specs.declared.Refusal.TheVariants.{ArgumentOutside, LengthOutside, MakerWrong, ChecksumWrong, SecondaryWrong, NoSuchCard, NoPlace, ListedTwice}
 use Rattle.refusal.specs.Number.{number_of}
 use Rattle.image_rules.specs.declared.Checked.{Checked}
-use Rattle.image_rules.specs.Image.{word_at, checksumOf, secondaryOf, orRefused, checkOf}
+use Rattle.image_rules.specs.Image.{word_at, checksum_of, secondary_of, or_refused, check_of}
 use Rattle.catalogue_rules.specs.Field.{Field, fields_of, left_of}
 use Rattle.catalogue_rules.specs.declared.Turn.{Turn}
 use Rattle.catalogue_rules.specs.declared.Turn.TheVariants.{Begun}
-use Rattle.catalogue_rules.specs.Turns.{after, isDamaged}
-use Rattle.catalogue_rules.specs.Reading.{Reading, catalogue, refused, with, is_last, ends, reading, parsed, roomy, read, hasRoom, addressesOf, isAmong, anyTwice, fileOf}
-use Rattle.catalogue_rules.specs.Edit.{Change, bytes, no, or_else, onCatalogue, ifSound, whose, noPlace, withAdded, addedTo, droppedFrom, anyFor, allSound}
+use Rattle.catalogue_rules.specs.Turns.{after, is_damaged}
+use Rattle.catalogue_rules.specs.Reading.{Reading, catalogue, refused, with, is_last, ends, reading, parsed, roomy, read, has_room, addresses_of, is_among, any_twice, file_of}
+use Rattle.catalogue_rules.specs.Edit.{Change, bytes, no, or_else, on_catalogue, if_sound, whose, no_place, with_added, added_to, dropped_from, any_for, all_sound}
 
 -- The change is a refusal 12.
-abbrev pub isArea : Change → Bool
-isArea (bytes file) = false
-isArea (no why) = eqb (number_of why) 12
+abbrev pub is_area : Change → Bool
+is_area (bytes file) = false
+is_area (no why) = eqb (number_of why) 12
 
-pub not_area : (change : Change) → isArea change ≡ false → change ≡ no ArgumentOutside → ⊥
-not_area change n e = never (sym n ∙ ap isArea e)
+pub not_area : (change : Change) → is_area change ≡ false → change ≡ no ArgumentOutside → ⊥
+not_area change n e = never (sym n ∙ ap is_area e)
 
-pub orElse-not : (b : Bool) (why : Refusal) (rest : Change) → eqb (number_of why) 12 ≡ false → isArea rest ≡ false → isArea (or_else b why rest) ≡ false
-orElse-not true why rest w r = w
-orElse-not false why rest w r = r
+pub orElse_not : (b : Bool) (why : Refusal) (rest : Change) → eqb (number_of why) 12 ≡ false → is_area rest ≡ false → is_area (or_else b why rest) ≡ false
+orElse_not true why rest w r = w
+orElse_not false why rest w r = r
 
 -- ---- an image
 
-check-not : (b : Bool) (why : Refusal) (checked : Checked) (change : Change) → eqb (number_of why) 12 ≡ false → isArea (ifSound checked change) ≡ false
-    → isArea (ifSound (orRefused b why checked) change) ≡ false
+check-not : (b : Bool) (why : Refusal) (checked : Checked) (change : Change) → eqb (number_of why) 12 ≡ false → is_area (if_sound checked change) ≡ false
+    → is_area (if_sound (or_refused b why checked) change) ≡ false
 check-not true why checked change w r = r
 check-not false why checked change w r = w
 
-pub image-not : (image file : List ℕ) → isArea (ifSound (checkOf image) (bytes file)) ≡ false
-unfolding checkOf
+pub image-not : (image file : List ℕ) → is_area (if_sound (check_of image) (bytes file)) ≡ false
+unfolding check_of
 image-not image file =
     check-not (eqb (length image) 128) LengthOutside _ (bytes file) refl
     (check-not (eqb (word_at image 0x07) 0x6D50) MakerWrong _ (bytes file) refl
-    (check-not (eqb (word_at image 0x0F) (checksumOf image)) ChecksumWrong _ (bytes file) refl
-    (check-not (eqb (word_at image 0x17) (secondaryOf image)) SecondaryWrong _ (bytes file) refl refl)))
+    (check-not (eqb (word_at image 0x0F) (checksum_of image)) ChecksumWrong _ (bytes file) refl
+    (check-not (eqb (word_at image 0x17) (secondary_of image)) SecondaryWrong _ (bytes file) refl refl)))
 
-pub images-not : (images : List (List ℕ)) (file : List ℕ) → isArea (allSound images (bytes file)) ≡ false
-unfolding allSound
-images-not images file =
-    orElse-not (anyFor MakerWrong images) MakerWrong _ refl
-    (orElse-not (anyFor ChecksumWrong images) ChecksumWrong _ refl
-    (orElse-not (anyFor SecondaryWrong images) SecondaryWrong _ refl refl))
+pub images_not : (images : List (List ℕ)) (file : List ℕ) → is_area (all_sound images (bytes file)) ≡ false
+unfolding all_sound
+images_not images file =
+    orElse_not (any_for MakerWrong images) MakerWrong _ refl
+    (orElse_not (any_for ChecksumWrong images) ChecksumWrong _ refl
+    (orElse_not (any_for SecondaryWrong images) SecondaryWrong _ refl refl))
 
 -- ---- a reading
 
-abbrev refusesArea : Reading → Bool
-refusesArea (catalogue fs) = false
-refusesArea (refused why) = eqb (number_of why) 12
+abbrev refuses_area : Reading → Bool
+refuses_area (catalogue fs) = false
+refuses_area (refused why) = eqb (number_of why) 12
 
-with-not : (f : Field) (r : Reading) → refusesArea r ≡ false → refusesArea (with f r) ≡ false
+with-not : (f : Field) (r : Reading) → refuses_area r ≡ false → refuses_area (with f r) ≡ false
 with-not f (catalogue fs) e = refl
 with-not f (refused why) e = e
 
-reading-not : (gs : List Field) (turn : Turn) (n : ℕ) (left : List ℕ) → refusesArea (reading turn n gs left) ≡ false
+reading-not : (gs : List Field) (turn : Turn) (n : ℕ) (left : List ℕ) → refuses_area (reading turn n gs left) ≡ false
 unfolding reading
 reading-not [] turn n left = refl
 reading-not (f ∷ gs) turn n left =
-    of-cond (λ r. refusesArea r ≡ false) (eqb f.tag 4)
-    (of-cond (λ r. refusesArea r ≡ false) (ends turn n f (is_last gs left)) refl refl)
-    (of-cond (λ r. refusesArea r ≡ false) (isDamaged (after turn f)) refl (with-not f (reading (after turn f) (n + 1) gs left) (reading-not gs (after turn f) (n + 1) left)))
+    of_cond (λ r. refuses_area r ≡ false) (eqb f.tag 4)
+    (of_cond (λ r. refuses_area r ≡ false) (ends turn n f (is_last gs left)) refl refl)
+    (of_cond (λ r. refuses_area r ≡ false) (is_damaged (after turn f)) refl (with-not f (reading (after turn f) (n + 1) gs left) (reading-not gs (after turn f) (n + 1) left)))
 
-roomy-not : (r : Reading) → refusesArea r ≡ false → refusesArea (roomy r) ≡ false
+roomy-not : (r : Reading) → refuses_area r ≡ false → refuses_area (roomy r) ≡ false
 roomy-not (catalogue fs) e =
-    of-cond (λ r. refusesArea r ≡ false) (hasRoom fs) (of-cond (λ r. refusesArea r ≡ false) (anyTwice (addressesOf fs)) refl refl) refl
+    of_cond (λ r. refuses_area r ≡ false) (has_room fs) (of_cond (λ r. refuses_area r ≡ false) (any_twice (addresses_of fs)) refl refl) refl
 roomy-not (refused why) e = e
 
-on-not : (r : Reading) (f : List Field → Change) → refusesArea r ≡ false → ((fs : List Field) → isArea (f fs) ≡ false) → isArea (onCatalogue r f) ≡ false
+on-not : (r : Reading) (f : List Field → Change) → refuses_area r ≡ false → ((fs : List Field) → is_area (f fs) ≡ false) → is_area (on_catalogue r f) ≡ false
 on-not (catalogue fs) f e k = k fs
 on-not (refused why) f e k = e
 
-pub read-not : (file : List ℕ) (f : List Field → Change) → ((fs : List Field) → isArea (f fs) ≡ false) → isArea (onCatalogue (read file) f) ≡ false
+pub read-not : (file : List ℕ) (f : List Field → Change) → ((fs : List Field) → is_area (f fs) ≡ false) → is_area (on_catalogue (read file) f) ≡ false
 unfolding read
 read-not file f k = on-not (roomy (parsed file)) f (roomy-not (parsed file) (reading-not (fields_of file) Begun 0 (left_of file))) k
 
-pub parsed-not : (file : List ℕ) (f : List Field → Change) → ((fs : List Field) → isArea (f fs) ≡ false) → isArea (onCatalogue (parsed file) f) ≡ false
+pub parsed-not : (file : List ℕ) (f : List Field → Change) → ((fs : List Field) → is_area (f fs) ≡ false) → is_area (on_catalogue (parsed file) f) ≡ false
 parsed-not file f k = on-not (parsed file) f (reading-not (fields_of file) Begun 0 (left_of file)) k
 
 -- ---- a change
 
-pub addedTo-not : (image : List ℕ) (fs : List Field) → isArea (addedTo image fs) ≡ false
-unfolding addedTo
-addedTo-not image fs =
-    orElse-not (not (hasRoom fs) || noPlace (whose image) fs) NoPlace _ refl
-    (orElse-not (anyTwice (addressesOf fs)) ListedTwice _ refl (image-not image (fileOf (withAdded image fs))))
+pub added_to-not : (image : List ℕ) (fs : List Field) → is_area (added_to image fs) ≡ false
+unfolding added_to
+added_to-not image fs =
+    orElse_not (not (has_room fs) || no_place (whose image) fs) NoPlace _ refl
+    (orElse_not (any_twice (addresses_of fs)) ListedTwice _ refl (image-not image (file_of (with_added image fs))))
 
-pub droppedFrom-not : (a : ℕ) (fs : List Field) → isArea (droppedFrom a fs) ≡ false
-unfolding droppedFrom
-droppedFrom-not a fs =
-    orElse-not (not (isAmong a (addressesOf fs))) NoSuchCard _ refl
-    (orElse-not (not (hasRoom fs)) NoPlace _ refl
-    (orElse-not (anyTwice (addressesOf fs)) ListedTwice _ refl refl))
+pub dropped_from-not : (a : ℕ) (fs : List Field) → is_area (dropped_from a fs) ≡ false
+unfolding dropped_from
+dropped_from-not a fs =
+    orElse_not (not (is_among a (addresses_of fs))) NoSuchCard _ refl
+    (orElse_not (not (has_room fs)) NoPlace _ refl
+    (orElse_not (any_twice (addresses_of fs)) ListedTwice _ refl refl))

@@ -12,15 +12,15 @@ use Rattle.bits.proofs.Tests.{never, both}
 use Rattle.catalogue_rules.specs.Field.{Field, bytes_of, number_at}
 use Rattle.catalogue_rules.specs.declared.Turn.{Turn}
 use Rattle.catalogue_rules.specs.declared.Turn.TheVariants.{Begun, Addressed, Numbered, Imaged, Damaged}
-use Rattle.catalogue_rules.specs.Turns.{address_of, afterAddress, afterNumber, afterImage, after, isDamaged}
-use Rattle.catalogue_rules.specs.Reading.{catalogue, read, addressesOf, countField, fileOf}
+use Rattle.catalogue_rules.specs.Turns.{address_of, after_address, after_number, after_image, after, is_damaged}
+use Rattle.catalogue_rules.specs.Reading.{catalogue, read, addresses_of, count_field, file_of}
 use Rattle.catalogue_rules.specs.RoundTrip.{Bytes, in_turn, WellFormed}
-use Rattle.catalogue_rules.proofs.Fit.{accepted-is-well-formed}
-use Rattle.catalogue_rules.proofs.Round.{read-is-written}
-use Rattle.catalogue_rules.specs.FileWalk.{oneIf}
+use Rattle.catalogue_rules.proofs.Fit.{accepted_is_well_formed_lem}
+use Rattle.catalogue_rules.proofs.Round.{read_is_written_lem}
+use Rattle.catalogue_rules.specs.FileWalk.{one_if}
 use Rattle.catalogue_rules.proofs.Walks.{one_more}
-use Rattle.catalogue_rules.specs.Unknown.{isKnown}
-use Rattle.catalogue_area.specs.Area.{unknownBytes, fullSize}
+use Rattle.catalogue_rules.specs.Unknown.{is_known}
+use Rattle.catalogue_area.specs.Area.{unknown_bytes, full_size}
 
 -- ---- what a card may still take
 
@@ -40,17 +40,17 @@ due (Numbered nth n) = 131
 due (Imaged nth n) = 0
 due Damaged = 0
 
-abbrev mayTake : Turn → ℕ
-mayTake turn = due turn + 136 * (8 - told turn)
+abbrev may_take : Turn → ℕ
+may_take turn = due turn + 136 * (8 - told turn)
 
 -- A field of so many bytes leads from one turn to the next: it fits into what may be taken, a new card, or what is unknown.
 record Fits (turn next : Turn) (size card unknown : ℕ) : Type 0 where
   most : told next ≤ 8
-  takes : size + mayTake next ≤ mayTake turn + 1097 * card + unknown
+  takes : size + may_take next ≤ may_take turn + 1097 * card + unknown
 
 -- The same unless it is damage.
 abbrev Goes : Turn → Turn → ℕ → ℕ → ℕ → Type 0
-Goes turn next size card unknown = isDamaged next ≡ false → Fits turn next size card unknown
+Goes turn next size card unknown = is_damaged next ≡ false → Fits turn next size card unknown
 
 -- ---- one field
 
@@ -59,7 +59,7 @@ module _ (l : ℕ) where
   of_length n card true turn next e g d = g (eqb-true l n e) d
   of_length n card false turn next e g d = never (sym d)
 
-  card-fits : (turn : Turn) → l ≡ 6 → Goes turn (afterAddress turn) (3 + l) 1 0
+  card-fits : (turn : Turn) → l ≡ 6 → Goes turn (after_address turn) (3 + l) 1 0
   card-fits Begun e d = record { most = omega arith; takes = omega arith }
   card-fits Addressed e d = never (sym d)
   card-fits (Numbered nth n) e d = never (sym d)
@@ -71,14 +71,14 @@ module _ (l : ℕ) where
   next_fits nth last number true false t e d = never (sym d)
   next_fits nth last number false c t e d = never (sym d)
 
-  number_fits : (turn : Turn) (number : ℕ) → l ≡ 2 → Goes turn (afterNumber turn number) (3 + l) 0 0
+  number_fits : (turn : Turn) (number : ℕ) → l ≡ 2 → Goes turn (after_number turn number) (3 + l) 0 0
   number_fits Begun number e d = never (sym d)
   number_fits Addressed number e d = record { most = omega arith; takes = omega arith }
   number_fits (Numbered nth n) number e d = never (sym d)
   number_fits (Imaged nth n) number e d = next_fits nth n number (ltb nth 8) (ltb n number) refl e d
   number_fits Damaged number e d = never (sym d)
 
-  image-fits : (turn : Turn) → told turn ≤ 8 → l ≡ 128 → Goes turn (afterImage turn) (3 + l) 0 0
+  image-fits : (turn : Turn) → told turn ≤ 8 → l ≡ 128 → Goes turn (after_image turn) (3 + l) 0 0
   image-fits Begun m e d = never (sym d)
   image-fits Addressed m e d = never (sym d)
   image-fits (Numbered nth n) m e d = record { most = m; takes = omega arith }
@@ -87,39 +87,39 @@ module _ (l : ℕ) where
 
 -- By the tests of its tag.
 module _ (turn : Turn) (f : Field) (m : told turn ≤ 8) where
-  by-tag : (a b c : Bool) → Goes turn
-      (cond a (cond (eqb (length f.value) 6) (afterAddress turn) Damaged)
-      (cond b (cond (eqb (length f.value) 2) (afterNumber turn (number_at f.value 0)) Damaged)
-      (cond c (cond (eqb (length f.value) 128) (afterImage turn) Damaged) turn)))
-      (3 + length f.value) (oneIf a) (cond (a || (b || c)) 0 (3 + length f.value))
-  by-tag true b c d = of_length (length f.value) 6 1 (eqb (length f.value) 6) turn (afterAddress turn) refl (card-fits (length f.value) turn) d
-  by-tag false true c d =
-      of_length (length f.value) 2 0 (eqb (length f.value) 2) turn (afterNumber turn (number_at f.value 0)) refl (number_fits (length f.value) turn (number_at f.value 0)) d
-  by-tag false false true d = of_length (length f.value) 128 0 (eqb (length f.value) 128) turn (afterImage turn) refl (image-fits (length f.value) turn m) d
-  by-tag false false false d = record { most = m; takes = omega arith }
+  by_tag : (a b c : Bool) → Goes turn
+      (cond a (cond (eqb (length f.value) 6) (after_address turn) Damaged)
+      (cond b (cond (eqb (length f.value) 2) (after_number turn (number_at f.value 0)) Damaged)
+      (cond c (cond (eqb (length f.value) 128) (after_image turn) Damaged) turn)))
+      (3 + length f.value) (one_if a) (cond (a || (b || c)) 0 (3 + length f.value))
+  by_tag true b c d = of_length (length f.value) 6 1 (eqb (length f.value) 6) turn (after_address turn) refl (card-fits (length f.value) turn) d
+  by_tag false true c d =
+      of_length (length f.value) 2 0 (eqb (length f.value) 2) turn (after_number turn (number_at f.value 0)) refl (number_fits (length f.value) turn (number_at f.value 0)) d
+  by_tag false false true d = of_length (length f.value) 128 0 (eqb (length f.value) 128) turn (after_image turn) refl (image-fits (length f.value) turn m) d
+  by_tag false false false d = record { most = m; takes = omega arith }
 
-  fits : Goes turn (after turn f) (3 + length f.value) (oneIf (eqb f.tag 1)) (cond (isKnown f) 0 (3 + length f.value))
+  fits : Goes turn (after turn f) (3 + length f.value) (one_if (eqb f.tag 1)) (cond (is_known f) 0 (3 + length f.value))
   unfolding after
-  fits = by-tag (eqb f.tag 1) (eqb f.tag 2) (eqb f.tag 3)
+  fits = by_tag (eqb f.tag 1) (eqb f.tag 2) (eqb f.tag 3)
 
 -- ---- all fields
 
-more-cards : (f : Field) (fs : List Field) → length (addressesOf (f ∷ fs)) ≡ oneIf (eqb f.tag 1) + length (addressesOf fs)
-unfolding addressesOf
-more-cards f fs = one_more (eqb f.tag 1) (address_of f.value) (addressesOf fs)
+more_cards : (f : Field) (fs : List Field) → length (addresses_of (f ∷ fs)) ≡ one_if (eqb f.tag 1) + length (addresses_of fs)
+unfolding addresses_of
+more_cards f fs = one_more (eqb f.tag 1) (address_of f.value) (addresses_of fs)
 
-unknown-if : (f : Field) (fs : List Field) (b : Bool) → isKnown f ≡ b → cond b 0 (3 + length f.value) + unknownBytes fs ≤ unknownBytes (f ∷ fs)
-unfolding unknownBytes
-unknown-if f fs true e = rw e (omega arith)
-unknown-if f fs false e = rw e (omega arith)
+unknown_if : (f : Field) (fs : List Field) (b : Bool) → is_known f ≡ b → cond b 0 (3 + length f.value) + unknown_bytes fs ≤ unknown_bytes (f ∷ fs)
+unfolding unknown_bytes
+unknown_if f fs true e = rw e (omega arith)
+unknown_if f fs false e = rw e (omega arith)
 
-all_fit : (fs : List Field) (turn : Turn) → told turn ≤ 8 → in_turn turn fs ≡ true → length (bytes_of fs) ≤ mayTake turn + 1097 * length (addressesOf fs) + unknownBytes fs
+all_fit : (fs : List Field) (turn : Turn) → told turn ≤ 8 → in_turn turn fs ≡ true → length (bytes_of fs) ≤ may_take turn + 1097 * length (addresses_of fs) + unknown_bytes fs
 unfolding bytes_of in_turn
 all_fit [] turn m t = omega arith
 all_fit (f ∷ fs) turn m t =
-    let x : (not (isDamaged (after turn f)) ≡ true) × (in_turn (after turn f) fs ≡ true) = both _ _ (both (not (eqb f.tag 4)) _ t).1 in
-    let s : Fits turn (after turn f) (3 + length f.value) (oneIf (eqb f.tag 1)) (cond (isKnown f) 0 (3 + length f.value)) = fits turn f m (not-true (isDamaged (after turn f)) x.0) in
-    omega (arith, all_fit fs (after turn f) s.most x.1, more-cards f fs, unknown-if f fs (isKnown f) refl, length-append f.value (bytes_of fs))
+    let x : (not (is_damaged (after turn f)) ≡ true) × (in_turn (after turn f) fs ≡ true) = both _ _ (both (not (eqb f.tag 4)) _ t).1 in
+    let s : Fits turn (after turn f) (3 + length f.value) (one_if (eqb f.tag 1)) (cond (is_known f) 0 (3 + length f.value)) = fits turn f m (not-true (is_damaged (after turn f)) x.0) in
+    omega (arith, all_fit fs (after turn f) s.most x.1, more_cards f fs, unknown_if f fs (is_known f) refl, length-append f.value (bytes_of fs))
 
 -- ---- the file
 
@@ -128,18 +128,18 @@ unfolding bytes_of
 length-bytes [] gs = omega arith
 length-bytes (f ∷ fs) gs = omega (arith, length-append f.value (bytes_of (fs ++ gs)), length-append f.value (bytes_of fs), length-bytes fs gs)
 
-count-size : (n : ℕ) → length (bytes_of (countField n ∷ [])) ≡ 5
+count-size : (n : ℕ) → length (bytes_of (count_field n ∷ [])) ≡ 5
 unfolding bytes_of
 count-size n = refl
 
-length-file : (fs : List Field) → length (fileOf fs) ≡ length (bytes_of fs) + 5
-unfolding fileOf
-length-file fs = length-bytes fs (countField (length fs) ∷ []) ∙ ap (λ (n : ℕ). length (bytes_of fs) + n) (count-size (length fs))
+length_file : (fs : List Field) → length (file_of fs) ≡ length (bytes_of fs) + 5
+unfolding file_of
+length_file fs = length-bytes fs (count_field (length fs) ∷ []) ∙ ap (λ (n : ℕ). length (bytes_of fs) + n) (count-size (length fs))
 
-pub size : (file : List ℕ) (fs : List Field) → Bytes file → read file ≡ catalogue fs → length file ≤ fullSize + unknownBytes fs
+pub size : (file : List ℕ) (fs : List Field) → Bytes file → read file ≡ catalogue fs → length file ≤ full_size + unknown_bytes fs
 size file fs b e =
-    let w : WellFormed fs = accepted-is-well-formed file fs b e in
-    let same : length (fileOf fs) ≡ length file = ap length (read-is-written file fs b e) in
-    let all : length (bytes_of fs) ≤ 0 + 1097 * length (addressesOf fs) + unknownBytes fs = all_fit fs Begun (omega arith) w.turns in
-    let few : length (addressesOf fs) ≤ 64 = w.cards in
-    omega (arith, length-file fs)
+    let w : WellFormed fs = accepted_is_well_formed_lem file fs b e in
+    let same : length (file_of fs) ≡ length file = ap length (read_is_written_lem file fs b e) in
+    let all : length (bytes_of fs) ≤ 0 + 1097 * length (addresses_of fs) + unknown_bytes fs = all_fit fs Begun (omega arith) w.turns in
+    let few : length (addresses_of fs) ≤ 64 = w.cards in
+    omega (arith, length_file fs)

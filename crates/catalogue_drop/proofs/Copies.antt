@@ -6,7 +6,7 @@ use mathlib.Core.List.{List, [], ◌∷◌, ◌++◌, append_assoc}
 use native.Mathlib.Omega.{arith}
 use lib.ListN.{length, length-append, length-take, length-drop}
 use Rattle.catalogue_rules.specs.Field.{bytes_of}
-use Rattle.catalogue_rules.specs.Reading.{countField}
+use Rattle.catalogue_rules.specs.Reading.{count_field}
 use Rattle.catalogue_rules.specs.Put.{put_at}
 use Rattle.catalogue_rules.proofs.Chain.{both-put, put_front}
 use Rattle.catalogue_drop.specs.Around.{between, around, begins, InOrder}
@@ -14,7 +14,7 @@ use Rattle.catalogue_drop.specs.Around.{between, around, begins, InOrder}
 pub length-between : (from to : ℕ) (file : List ℕ) → to ≤ length file → length (between from to file) ≡ to - from
 length-between from to file h = simp (length-take, length-drop) (omega arith)
 
-count_long : (n : ℕ) → length (bytes_of (countField n ∷ [])) ≡ 5
+count_long : (n : ℕ) → length (bytes_of (count_field n ∷ [])) ≡ 5
 unfolding bytes_of
 count_long n = refl
 
@@ -26,22 +26,22 @@ module _ (file : List ℕ) (kept at number image left : ℕ) (o : InOrder file k
   second-long : length (between at number file) ≡ number - at
   second-long = length-between at number file (omega arith)
 
-  third-long : length (between (number + 5) image file) ≡ image - (number + 5)
-  third-long = length-between (number + 5) image file (omega arith)
+  third_long : length (between (number + 5) image file) ≡ image - (number + 5)
+  third_long = length-between (number + 5) image file (omega arith)
 
-  fourth-long : length (between (image + 131) (length file - 5) file) ≡ length file - 5 - (image + 131)
-  fourth-long = length-between (image + 131) (length file - 5) file (omega arith)
+  fourth_long : length (between (image + 131) (length file - 5) file) ≡ length file - 5 - (image + 131)
+  fourth_long = length-between (image + 131) (length file - 5) file (omega arith)
 
   pub around-long : length (around file kept at number image left) ≡ kept + (number - at) + (image - (number + 5)) + (length file - 5 - (image + 131)) + 5
   unfolding around
-  around-long = simp (length-append, first-long, second-long, third-long, fourth-long, count_long) (omega arith)
+  around-long = simp (length-append, first-long, second-long, third_long, fourth_long, count_long) (omega arith)
 
   pub copied : (area : List ℕ) → length file ≤ length area → {a b c d e : List ℕ} {one two three four : ℕ}
       → one ≡ 0 + (kept - 0) → a ≡ put_at area 0 (between 0 kept file)
       → two ≡ one + (number - at) → b ≡ put_at a one (between at number file)
       → three ≡ two + (image - (number + 5)) → c ≡ put_at b two (between (number + 5) image file)
       → four ≡ three + (length file - 5 - (image + 131)) → d ≡ put_at c three (between (image + 131) (length file - 5) file)
-      → e ≡ put_at d four (bytes_of (countField left ∷ []))
+      → e ≡ put_at d four (bytes_of (count_field left ∷ []))
       → e ≡ begins (around file kept at number image left) area
   unfolding around
   copied area fits {a} {b} {c} {d} {e} {one} {two} {three} {four} n₁ p₁ n₂ p₂ n₃ p₃ n₄ p₄ p₅ =
@@ -50,11 +50,11 @@ module _ (file : List ℕ) (kept at number image left : ℕ) (o : InOrder file k
       let x₂ : List ℕ = between at number file in
       let x₃ : List ℕ = between (number + 5) image file in
       let x₄ : List ℕ = between (image + 131) (length file - 5) file in
-      let x₅ : List ℕ = bytes_of (countField left ∷ []) in
+      let x₅ : List ℕ = bytes_of (count_field left ∷ []) in
       let l₁ : length x₁ ≡ kept - 0 = first-long in
       let l₂ : length x₂ ≡ number - at = second-long in
-      let l₃ : length x₃ ≡ image - (number + 5) = third-long in
-      let l₄ : length x₄ ≡ length file - 5 - (image + 131) = fourth-long in
+      let l₃ : length x₃ ≡ image - (number + 5) = third_long in
+      let l₄ : length x₄ ≡ length file - 5 - (image + 131) = fourth_long in
       let l₅ : length x₅ ≡ 5 = count_long left in
       let m₂ : length (x₁ ++ x₂) ≡ length x₁ + length x₂ = length-append x₁ x₂ in
       let m₃ : length ((x₁ ++ x₂) ++ x₃) ≡ length (x₁ ++ x₂) + length x₃ = length-append (x₁ ++ x₂) x₃ in

@@ -12,23 +12,23 @@ use Rattle.refusal.specs.declared.Refusal.{Refusal}
 use Rattle.refusal.specs.declared.Refusal.TheVariants.{ArgumentOutside, NoSuchCard, NoPlace, ListedTwice}
 use Rattle.catalogue_rules.specs.Field.{Field, fields_of}
 use Rattle.catalogue_rules.specs.declared.Judged.TheVariants.{Sound, Refused}
-use Rattle.catalogue_rules.specs.Reading.{Reading, catalogue, refused, parsed, addressesOf, isAmong, anyTwice, fileOf, read, judged}
-use Rattle.catalogue_rules.specs.Cards.{versionsFrom}
+use Rattle.catalogue_rules.specs.Reading.{Reading, catalogue, refused, parsed, addresses_of, is_among, any_twice, file_of, read, judged}
+use Rattle.catalogue_rules.specs.Cards.{versions_from}
 use Rattle.catalogue_rules.specs.RoundTrip.{Bytes}
 use Rattle.catalogue_rules.specs.declared.Seek.TheVariants as seek
 use Rattle.catalogue_rules.proofs.Checked.{is_read}
-use Rattle.catalogue_rules.proofs.Accepted.{addresses-parsed}
-use Rattle.catalogue_rules.specs.Edit.{Change, bytes, no, or_else, onCatalogue, withoutVersion, droppedFrom, dropped}
-use Rattle.catalogue_put.specs.Places.{cardPlace, fieldPlace, seekIf}
-use Rattle.catalogue_put.proofs.Behind.{missing-if, behind-if}
+use Rattle.catalogue_rules.proofs.Accepted.{addresses_parsed}
+use Rattle.catalogue_rules.specs.Edit.{Change, bytes, no, or_else, on_catalogue, without_version, dropped_from, dropped}
+use Rattle.catalogue_put.specs.Places.{card_place, field_place, seek_if}
+use Rattle.catalogue_put.proofs.Behind.{missing_if, behind-if}
 use Rattle.catalogue_rules.proofs.Changes.{unread}
-use Rattle.catalogue_drop.specs.Around.{around, begins, numberPlace, imagePlace, newFile, Behind}
-use Rattle.catalogue_drop.proofs.Law.{is-behind, is-new}
+use Rattle.catalogue_drop.specs.Around.{around, begins, number_place, image_place, new_file, Behind}
+use Rattle.catalogue_drop.proofs.Law.{is_behind, is_new}
 
 -- ---- behind the address
 
-as-new : {x y : List ℕ} (area : List ℕ) {after : List ℕ} {r : ℕ} → x ≡ y → (r ≡ length x) × (after ≡ begins x area) → (r ≡ length y) × (after ≡ begins y area)
-as-new area e h = (h.0 ∙ ap length e, h.1 ∙ ap (λ (l : List ℕ). begins l area) e)
+as_new : {x y : List ℕ} (area : List ℕ) {after : List ℕ} {r : ℕ} → x ≡ y → (r ≡ length x) × (after ≡ begins x area) → (r ≡ length y) × (after ≡ begins y area)
+as_new area e h = (h.0 ∙ ap length e, h.1 ∙ ap (λ (l : List ℕ). begins l area) e)
 
 pushed : (t : Bool) (f : ℕ → ℕ → List ℕ) (a b c d : ℕ) → f (cond t a b) (cond t c d) ≡ cond t (f a c) (f b d)
 pushed true f a b c d = refl
@@ -40,39 +40,39 @@ pub record Placed (file : List ℕ) (at number image : ℕ) : Type 0 where
   pub imaged : number + 5 ≤ image
   pub ended : image + 136 ≤ length file
 
-module _ (file : List ℕ) (at n : ℕ) {number image : ℕ} (p : number ≡ numberPlace file at) (q : image ≡ number + fieldPlace 3 (fields_of (drop number file))) where
-  image-at : image ≡ imagePlace file at
-  image-at = q ∙ ap (λ (k : ℕ). k + fieldPlace 3 (fields_of (drop k file))) p
+module _ (file : List ℕ) (at n : ℕ) {number image : ℕ} (p : number ≡ number_place file at) (q : image ≡ number + field_place 3 (fields_of (drop number file))) where
+  image_at : image ≡ image_place file at
+  image_at = q ∙ ap (λ (k : ℕ). k + field_place 3 (fields_of (drop k file))) p
 
   pub placed : Behind file at n → Placed file at number image
   placed b =
-      let i : image ≡ imagePlace file at = image-at in
-      let e : imagePlace file at + 136 ≤ length file = b.ended in
-      let m : numberPlace file at + 5 ≤ imagePlace file at = b.imaged in
+      let i : image ≡ image_place file at = image_at in
+      let e : image_place file at + 136 ≤ length file = b.ended in
+      let m : number_place file at + 5 ≤ image_place file at = b.imaged in
       record { numbered = omega arith; imaged = omega arith; ended = omega arith }
 
   -- The bytes that were left are the new file, if the right ones were.
-  module _ {versions : ℕ} (v : versions ≡ length (versionsFrom 0 (fields_of (drop at file)))) where
-    left-with : (t : Bool) {kept left : ℕ} → ltb (length (versionsFrom 0 (fields_of (drop at file)))) 2 ≡ t → kept ≡ cond t (at - 9) at → left ≡ cond t (n - 3) (n - 2)
-        → around file kept at number image left ≡ newFile file at n
-    unfolding newFile
+  module _ {versions : ℕ} (v : versions ≡ length (versions_from 0 (fields_of (drop at file)))) where
+    left-with : (t : Bool) {kept left : ℕ} → ltb (length (versions_from 0 (fields_of (drop at file)))) 2 ≡ t → kept ≡ cond t (at - 9) at → left ≡ cond t (n - 3) (n - 2)
+        → around file kept at number image left ≡ new_file file at n
+    unfolding new_file
     left-with t {kept} {left} h k l =
         ap₂ (λ (x y : ℕ). around file x at number image y) k l
-        ∙ ap₂ (λ (x y : ℕ). around file (cond t (at - 9) at) at x y (cond t (n - 3) (n - 2))) p image-at
-        ∙ pushed t (λ (x y : ℕ). around file x at (numberPlace file at) (imagePlace file at) y) (at - 9) at (n - 3) (n - 2)
-        ∙ ap (λ (b : Bool). cond b (around file (at - 9) at (numberPlace file at) (imagePlace file at) (n - 3)) (around file at at (numberPlace file at) (imagePlace file at) (n - 2))) (sym h)
+        ∙ ap₂ (λ (x y : ℕ). around file (cond t (at - 9) at) at x y (cond t (n - 3) (n - 2))) p image_at
+        ∙ pushed t (λ (x y : ℕ). around file x at (number_place file at) (image_place file at) y) (at - 9) at (n - 3) (n - 2)
+        ∙ ap (λ (b : Bool). cond b (around file (at - 9) at (number_place file at) (image_place file at) (n - 3)) (around file at at (number_place file at) (image_place file at) (n - 2))) (sym h)
 
     pub last_goes : versions < 2 → (kept left : ℕ) (area : List ℕ) {after : List ℕ} {r : ℕ}
         → (r ≡ length (around file kept at number image left)) × (after ≡ begins (around file kept at number image left) area)
-        → kept ≡ at - 9 → left ≡ n - 3 → (r ≡ length (newFile file at n)) × (after ≡ begins (newFile file at n) area)
+        → kept ≡ at - 9 → left ≡ n - 3 → (r ≡ length (new_file file at n)) × (after ≡ begins (new_file file at n) area)
     last_goes h kept left area x k l =
-        as-new area (left-with true (lt-ltb (length (versionsFrom 0 (fields_of (drop at file)))) 2 (omega arith)) k l) x
+        as_new area (left-with true (lt-ltb (length (versions_from 0 (fields_of (drop at file)))) 2 (omega arith)) k l) x
 
-    pub one-goes : 2 ≤ versions → (kept left : ℕ) (area : List ℕ) {after : List ℕ} {r : ℕ}
+    pub one_goes : 2 ≤ versions → (kept left : ℕ) (area : List ℕ) {after : List ℕ} {r : ℕ}
         → (r ≡ length (around file kept at number image left)) × (after ≡ begins (around file kept at number image left) area)
-        → kept ≡ at → left ≡ n - 2 → (r ≡ length (newFile file at n)) × (after ≡ begins (newFile file at n) area)
-    one-goes h kept left area x k l =
-        as-new area (left-with false (le-ltb (length (versionsFrom 0 (fields_of (drop at file)))) 2 (omega arith)) k l) x
+        → kept ≡ at → left ≡ n - 2 → (r ≡ length (new_file file at n)) × (after ≡ begins (new_file file at n) area)
+    one_goes h kept left area x k l =
+        as_new area (left-with false (le-ltb (length (versions_from 0 (fields_of (drop at file)))) 2 (omega arith)) k l) x
 
 -- ---- the whole call
 
@@ -80,7 +80,7 @@ module _ (file : List ℕ) (at n : ℕ) {number image : ℕ} (p : number ≡ num
 record Taken (r : Reading) (c n : ℕ) : Type 0 where
   fs : List Field
   are : r ≡ catalogue fs
-  cards : c ≡ length (addressesOf fs)
+  cards : c ≡ length (addresses_of fs)
   many : n ≡ length fs
 
 taken : (r : Reading) (c n : ℕ) → Sound c n ≡ judged r → Taken r c n
@@ -94,64 +94,64 @@ tests there room twice new = or_else (not there) NoSuchCard (or_else (not room) 
 module _ (area : ℕ) (file : List ℕ) (a : ℕ) where
   pub too_short : area < length file → dropped area file a ≡ no ArgumentOutside
   unfolding dropped
-  too_short h = ap (λ (b : Bool). or_else b ArgumentOutside (onCatalogue (parsed file) (droppedFrom a))) (lt-ltb area (length file) h)
+  too_short h = ap (λ (b : Bool). or_else b ArgumentOutside (on_catalogue (parsed file) (dropped_from a))) (lt-ltb area (length file) h)
 
   module _ (fits : length file ≤ area) where
-    judged-so : dropped area file a ≡ onCatalogue (parsed file) (droppedFrom a)
+    judged_so : dropped area file a ≡ on_catalogue (parsed file) (dropped_from a)
     unfolding dropped
-    judged-so = ap (λ (b : Bool). or_else b ArgumentOutside (onCatalogue (parsed file) (droppedFrom a))) (le-ltb area (length file) fits)
+    judged_so = ap (λ (b : Bool). or_else b ArgumentOutside (on_catalogue (parsed file) (dropped_from a))) (le-ltb area (length file) fits)
 
-    pub no-file : {why : Refusal} → Refused why ≡ judged (parsed file) → dropped area file a ≡ no why
-    no-file {why} e = judged-so ∙ unread (droppedFrom a) (parsed file) why e
+    pub no_file : {why : Refusal} → Refused why ≡ judged (parsed file) → dropped area file a ≡ no why
+    no_file {why} e = judged_so ∙ unread (dropped_from a) (parsed file) why e
 
     module _ {c n : ℕ} (e : Sound c n ≡ judged (parsed file)) where
       was : Taken (parsed file) c n
       was = taken (parsed file) c n e
 
-      same-cards : addressesOf (fields_of file) ≡ addressesOf was.fs
-      same-cards = addresses-parsed file was.fs was.are
+      same-cards : addresses_of (fields_of file) ≡ addresses_of was.fs
+      same-cards = addresses_parsed file was.fs was.are
 
-      tested : (there room twice : Bool) → isAmong a (addressesOf (fields_of file)) ≡ there → leb c 64 ≡ room → anyTwice (addressesOf (fields_of file)) ≡ twice
-          → dropped area file a ≡ tests there room twice (fileOf (withoutVersion a was.fs))
-      unfolding droppedFrom
+      tested : (there room twice : Bool) → is_among a (addresses_of (fields_of file)) ≡ there → leb c 64 ≡ room → any_twice (addresses_of (fields_of file)) ≡ twice
+          → dropped area file a ≡ tests there room twice (file_of (without_version a was.fs))
+      unfolding dropped_from
       tested there room twice m r t =
-          judged-so
-          ∙ ap (λ (x : Reading). onCatalogue x (droppedFrom a)) was.are
-          ∙ ap₂ (λ (x y : Bool). tests x y (anyTwice (addressesOf was.fs)) (fileOf (withoutVersion a was.fs)))
-          (ap (isAmong a) (sym same-cards) ∙ m) (ap (λ (k : ℕ). leb k 64) (sym was.cards) ∙ r)
-          ∙ ap (λ (x : Bool). tests there room x (fileOf (withoutVersion a was.fs))) (ap anyTwice (sym same-cards) ∙ t)
+          judged_so
+          ∙ ap (λ (x : Reading). on_catalogue x (dropped_from a)) was.are
+          ∙ ap₂ (λ (x y : Bool). tests x y (any_twice (addresses_of was.fs)) (file_of (without_version a was.fs)))
+          (ap (is_among a) (sym same-cards) ∙ m) (ap (λ (k : ℕ). leb k 64) (sym was.cards) ∙ r)
+          ∙ ap (λ (x : Bool). tests there room x (file_of (without_version a was.fs))) (ap any_twice (sym same-cards) ∙ t)
 
-      pub no-card : seek.Missing ≡ seekIf (isAmong a (addressesOf (fields_of file))) (cardPlace a (fields_of file)) → dropped area file a ≡ no NoSuchCard
-      no-card s = tested false _ _ (missing-if (isAmong a (addressesOf (fields_of file))) (cardPlace a (fields_of file)) s) refl refl
+      pub no-card : seek.Missing ≡ seek_if (is_among a (addresses_of (fields_of file))) (card_place a (fields_of file)) → dropped area file a ≡ no NoSuchCard
+      no-card s = tested false _ _ (missing_if (is_among a (addresses_of (fields_of file))) (card_place a (fields_of file)) s) refl refl
 
-      module _ {at : ℕ} (s : seek.Behind at ≡ seekIf (isAmong a (addressesOf (fields_of file))) (cardPlace a (fields_of file))) where
-        there : (isAmong a (addressesOf (fields_of file)) ≡ true) × (at ≡ cardPlace a (fields_of file))
-        there = behind-if (isAmong a (addressesOf (fields_of file))) (cardPlace a (fields_of file)) at s
+      module _ {at : ℕ} (s : seek.Behind at ≡ seek_if (is_among a (addresses_of (fields_of file))) (card_place a (fields_of file))) where
+        there : (is_among a (addresses_of (fields_of file)) ≡ true) × (at ≡ card_place a (fields_of file))
+        there = behind-if (is_among a (addresses_of (fields_of file))) (card_place a (fields_of file)) at s
 
         pub too_many : 64 < c → dropped area file a ≡ no NoPlace
         too_many h = tested true false _ there.0 (lt-leb c 64 h) refl
 
-        module _ (room : c ≤ 64) {twice : Bool} (t : twice ≡ anyTwice (addressesOf (fields_of file))) where
-          pub is-twice : twice ≡ true → dropped area file a ≡ no ListedTwice
-          is-twice y = tested true true true there.0 (le-leb c 64 room) (sym t ∙ y)
+        module _ (room : c ≤ 64) {twice : Bool} (t : twice ≡ any_twice (addresses_of (fields_of file))) where
+          pub is_twice : twice ≡ true → dropped area file a ≡ no ListedTwice
+          is_twice y = tested true true true there.0 (le-leb c 64 room) (sym t ∙ y)
 
           -- Behind the tests the file is a sound one.
           module _ (y : twice ≡ false) (b : Bytes file) where
-            was-sound : read file ≡ catalogue was.fs
-            was-sound =
-                is_read file was.fs was.are (le-leb (length (addressesOf was.fs)) 64 (omega (arith, was.cards))) (ap anyTwice (sym same-cards) ∙ sym t ∙ y)
+            was_sound : read file ≡ catalogue was.fs
+            was_sound =
+                is_read file was.fs was.are (le-leb (length (addresses_of was.fs)) 64 (omega (arith, was.cards))) (ap any_twice (sym same-cards) ∙ sym t ∙ y)
 
-            among : isAmong a (addressesOf was.fs) ≡ true
-            among = ap (isAmong a) (sym same-cards) ∙ there.0
+            among : is_among a (addresses_of was.fs) ≡ true
+            among = ap (is_among a) (sym same-cards) ∙ there.0
 
-            pub behind-it : Behind file at n
-            behind-it =
+            pub behind_it : Behind file at n
+            behind_it =
                 subst (λ (k : ℕ). Behind file k n) (sym there.1)
-                (subst (λ (k : ℕ). Behind file (cardPlace a (fields_of file)) k) (sym was.many) (is-behind a file was.fs b was-sound among))
+                (subst (λ (k : ℕ). Behind file (card_place a (fields_of file)) k) (sym was.many) (is_behind a file was.fs b was_sound among))
 
-            pub new-so : dropped area file a ≡ bytes (newFile file at n)
-            new-so =
+            pub new_so : dropped area file a ≡ bytes (new_file file at n)
+            new_so =
                 tested true true false there.0 (le-leb c 64 room) (sym t ∙ y)
                 ∙ ap bytes
-                (sym (is-new a file was.fs b was-sound among)
-                ∙ ap₂ (λ (x y : ℕ). newFile file x y) (sym there.1) (sym was.many))
+                (sym (is_new a file was.fs b was_sound among)
+                ∙ ap₂ (λ (x y : ℕ). new_file file x y) (sym there.1) (sym was.many))

@@ -8,9 +8,9 @@ use lib.ListN.{length, take, drop, length-append}
 use lib.Seq.{take_at, drop_at}
 use Rattle.catalogue_rules.specs.Field.{Field, written, bytes_of, fields_of}
 use Rattle.catalogue_rules.proofs.Append.{bytes-append}
-use Rattle.catalogue_rules.specs.Reading.{countField}
+use Rattle.catalogue_rules.specs.Reading.{count_field}
 use Rattle.catalogue_rules.specs.RoundTrip.{Sizes}
-use Rattle.catalogue_rules.proofs.WrittenBack.{fields-written}
+use Rattle.catalogue_rules.proofs.WrittenBack.{fields_written}
 use Rattle.catalogue_drop.specs.Around.{between, around}
 
 sizes-behind : (xs ys : List Field) → Sizes (xs ++ ys) → Sizes ys
@@ -19,12 +19,12 @@ sizes-behind [] ys s = s
 sizes-behind (x ∷ xs) ys s = sizes-behind xs ys s.1
 
 -- From behind some fields on, the fields are the others.
-pub fields-behind : (xs ys : List Field) (file : List ℕ) (at : ℕ) → Sizes (xs ++ ys) → file ≡ bytes_of (xs ++ ys) → at ≡ length (bytes_of xs)
+pub fields_behind : (xs ys : List Field) (file : List ℕ) (at : ℕ) → Sizes (xs ++ ys) → file ≡ bytes_of (xs ++ ys) → at ≡ length (bytes_of xs)
     → fields_of (drop at file) ≡ ys
-fields-behind xs ys file at s e p =
+fields_behind xs ys file at s e p =
     ap₂ (λ (n : ℕ) (l : List ℕ). fields_of (drop n l)) p (e ∙ bytes-append xs ys)
     ∙ ap fields_of (drop_at (bytes_of xs) (bytes_of ys) (length (bytes_of xs)) refl)
-    ∙ fields-written ys (sizes-behind xs ys s)
+    ∙ fields_written ys (sizes-behind xs ys s)
 
 -- Up to there, the bytes are theirs.
 pub bytes-before : (xs ys : List Field) (file : List ℕ) (at : ℕ) → file ≡ bytes_of (xs ++ ys) → at ≡ length (bytes_of xs) → take at file ≡ bytes_of xs
@@ -51,7 +51,7 @@ module _ (all address one number two image rest count : List ℕ)
 
   pub left_over : (file : List ℕ) (kept left : ℕ) (before : List ℕ) → file ≡ pieces → take kept file ≡ before
       → around file kept (length all + 9) (length all + 9 + length one) (length all + 9 + length one + (5 + length two)) left
-      ≡ before ++ (one ++ (two ++ (rest ++ bytes_of (countField left ∷ []))))
+      ≡ before ++ (one ++ (two ++ (rest ++ bytes_of (count_field left ∷ []))))
   unfolding around
   left_over file kept left before e k =
       let n : length file ≡ length all + 9 + length one + 5 + length two + 131 + length rest + 5 = ap length e ∙ long in
@@ -62,7 +62,7 @@ module _ (all address one number two image rest count : List ℕ)
       let place : ℕ = start + length one in
       let behind : ℕ = place + (5 + length two) in
       let z : kept - 0 ≡ kept = omega arith in
-      joined (bytes_of (countField left ∷ [])) (ap (λ (n : ℕ). take n file) z ∙ k)
+      joined (bytes_of (count_field left ∷ [])) (ap (λ (n : ℕ). take n file) z ∙ k)
       (in_between (all ++ address) one (number ++ (two ++ (image ++ (rest ++ count)))) start place e₁ (simp length-append (omega arith)) refl)
       (in_between (all ++ (address ++ (one ++ number))) two (image ++ (rest ++ count)) (place + 5) behind e₂ (simp length-append (omega arith)) (omega arith))
       (in_between (all ++ (address ++ (one ++ (number ++ (two ++ image))))) rest count (behind + 131) (length file - 5) e₃ (simp length-append (omega arith)) (omega arith))

@@ -3,9 +3,9 @@
 -- Assumes nothing.
 use Rattle.std.specs.Prelude.{ℕ, ◌+◌, ◌-◌, ◌≤◌, ◌<◌, cond, List, [], ◌∷◌, ◌++◌, length, take, drop, ltb}
 use Rattle.catalogue_rules.specs.Field.{bytes_of, fields_of}
-use Rattle.catalogue_rules.specs.Reading.{countField}
-use Rattle.catalogue_rules.specs.Cards.{versionsFrom}
-use Rattle.catalogue_put.specs.Places.{fieldPlace}
+use Rattle.catalogue_rules.specs.Reading.{count_field}
+use Rattle.catalogue_rules.specs.Cards.{versions_from}
+use Rattle.catalogue_put.specs.Places.{field_place}
 
 -- The bytes from one place up to another.
 abbrev pub between : ℕ → ℕ → List ℕ → List ℕ
@@ -16,7 +16,7 @@ unfoldable pub around : List ℕ → ℕ → ℕ → ℕ → ℕ → ℕ → Lis
 around file kept at number image left =
     between 0 kept file
     ++ (between at number file
-    ++ (between (number + 5) image file ++ (between (image + 131) (length file - 5) file ++ bytes_of (countField left ∷ []))))
+    ++ (between (number + 5) image file ++ (between (image + 131) (length file - 5) file ++ bytes_of (count_field left ∷ []))))
 
 -- The places come in this order, and the new count goes into two bytes.
 pub record InOrder (file : List ℕ) (kept at number image left : ℕ) : Type 0 where
@@ -27,18 +27,18 @@ pub record InOrder (file : List ℕ) (kept at number image left : ℕ) : Type 0 
   pub counted : left < 65536
 
 -- Where the first number and its image stand behind a card's address.
-abbrev pub numberPlace : List ℕ → ℕ → ℕ
-numberPlace file at = at + fieldPlace 2 (fields_of (drop at file))
+abbrev pub number_place : List ℕ → ℕ → ℕ
+number_place file at = at + field_place 2 (fields_of (drop at file))
 
-abbrev pub imagePlace : List ℕ → ℕ → ℕ
-imagePlace file at = numberPlace file at + fieldPlace 3 (fields_of (drop (numberPlace file at) file))
+abbrev pub image_place : List ℕ → ℕ → ℕ
+image_place file at = number_place file at + field_place 3 (fields_of (drop (number_place file at) file))
 
 -- The new file: the address of 9 bytes goes with the last version.
-unfoldable pub newFile : List ℕ → ℕ → ℕ → List ℕ
-newFile file at n =
-    cond (ltb (length (versionsFrom 0 (fields_of (drop at file)))) 2)
-    (around file (at - 9) at (numberPlace file at) (imagePlace file at) (n - 3))
-    (around file at at (numberPlace file at) (imagePlace file at) (n - 2))
+unfoldable pub new_file : List ℕ → ℕ → ℕ → List ℕ
+new_file file at n =
+    cond (ltb (length (versions_from 0 (fields_of (drop at file)))) 2)
+    (around file (at - 9) at (number_place file at) (image_place file at) (n - 3))
+    (around file at at (number_place file at) (image_place file at) (n - 2))
 
 -- The area begins with some bytes and is behind them as it came.
 abbrev pub begins : List ℕ → List ℕ → List ℕ
@@ -47,7 +47,7 @@ begins those area = those ++ drop (length those) area
 -- Behind a card's address, in a file of n fields before the count.
 pub record Behind (file : List ℕ) (at n : ℕ) : Type 0 where
   pub addressed : 9 ≤ at
-  pub imaged : numberPlace file at + 5 ≤ imagePlace file at
-  pub ended : imagePlace file at + 136 ≤ length file
+  pub imaged : number_place file at + 5 ≤ image_place file at
+  pub ended : image_place file at + 136 ≤ length file
   pub three : 3 ≤ n
   pub counted : n < 65536

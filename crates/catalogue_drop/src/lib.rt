@@ -2,7 +2,7 @@
 ghost use Rattle.std.specs.Prelude.{◌≡◌, ◌+◌, ◌-◌, ◌≤◌, length};
 ghost use Rattle.catalogue_rules.specs.Put.{put_at};
 ghost use Rattle.catalogue_rules.specs.PutContracts.{Drops};
-ghost use Rattle.catalogue_drop.specs.Around.{between, around, begins, newFile, InOrder, Behind};
+ghost use Rattle.catalogue_drop.specs.Around.{between, around, begins, new_file, InOrder, Behind};
 
 use catalogue_rules::{Judged, Seek, Written};
 use refusal::Refusal;
@@ -35,7 +35,7 @@ pub fn drop_oldest(file: &[u8], address: u64, out: &mut [u8]) -> Written
 // Answers how many bytes the new file has.
 fn drop_behind(file: &[u8], at: usize, fields: usize, out: &mut [u8]) -> usize
     requires { Behind file.now at fields × (length file.now ≤ length out.old) }
-    ensures { (result ≡ length (newFile file.now at fields)) × (out.new ≡ begins (newFile file.now at fields) out.old) }
+    ensures { (result ≡ length (new_file file.now at fields)) × (out.new ≡ begins (new_file file.now at fields) out.old) }
 {
     let number = catalogue_put::field_place(file, at, 2);
     let image = catalogue_put::field_place(file, number, 3);

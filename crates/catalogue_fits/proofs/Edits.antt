@@ -11,22 +11,22 @@ use Rattle.refusal.specs.declared.Refusal.{Refusal}
 use Rattle.refusal.specs.declared.Refusal.TheVariants.{ArgumentOutside, LengthOutside, MakerWrong, ChecksumWrong, SecondaryWrong, NoSuchCard, NoPlace, ListedTwice}
 use Rattle.image_rules.specs.declared.Checked.{Checked}
 use Rattle.image_rules.specs.declared.Checked.TheVariants as checked
-use Rattle.image_rules.specs.Image.{word_at, checksumOf, secondaryOf, orRefused, checkOf}
-use Rattle.catalogue_rules.specs.Reading.{Reading, parsed, read, hasRoom, addressesOf, isAmong, anyTwice, fileOf}
-use Rattle.catalogue_rules.specs.Archive.{addressesIn, movedOut}
-use Rattle.catalogue_rules.specs.Edit.{Change, bytes, or_else, onCatalogue, ifSound, whose, noPlace, isFor, anyFor, imagesIn, withAdded, addedTo, added, droppedFrom, dropped, allSound, imported, exported}
+use Rattle.image_rules.specs.Image.{word_at, checksum_of, secondary_of, or_refused, check_of}
+use Rattle.catalogue_rules.specs.Reading.{Reading, parsed, read, has_room, addresses_of, is_among, any_twice, file_of}
+use Rattle.catalogue_rules.specs.Archive.{addresses_in, moved_out}
+use Rattle.catalogue_rules.specs.Edit.{Change, bytes, or_else, on_catalogue, if_sound, whose, no_place, is_for, any_for, images_in, with_added, added_to, added, dropped_from, dropped, all_sound, imported, exported}
 use Rattle.catalogue_rules.specs.Put.{answer_of}
-use Rattle.catalogue_fits.specs.Tests.{Outcome, fine, because, first_of, addTests, dropTests, importTests, exportTests}
-use Rattle.catalogue_fits.specs.Fits.{ofWritten}
-use Rattle.catalogue_fits.proofs.Readings.{InTurn, whole, damaged, early, in-turn, roomy-faults}
+use Rattle.catalogue_fits.specs.Tests.{Outcome, fine, because, first_of, add_tests, drop_tests, import_tests, export_tests}
+use Rattle.catalogue_fits.specs.Fits.{of_written}
+use Rattle.catalogue_fits.proofs.Readings.{InTurn, whole, damaged, early, in_turn_lem, roomy_faults}
 
 abbrev outcome : Change → Outcome
-outcome change = ofWritten (answer_of change)
+outcome change = of_written (answer_of change)
 
 -- A test, and what is behind it where it does not hold.
-or-else : (b : Bool) (why : Refusal) (rest : Change) (o : Outcome) → (b ≡ false → outcome rest ≡ o) → outcome (or_else b why rest) ≡ cond b (because why) o
-or-else true why rest o k = refl
-or-else false why rest o k = k refl
+or_else_lem : (b : Bool) (why : Refusal) (rest : Change) (o : Outcome) → (b ≡ false → outcome rest ≡ o) → outcome (or_else b why rest) ≡ cond b (because why) o
+or_else_lem true why rest o k = refl
+or_else_lem false why rest o k = k refl
 
 -- ---- the check of an image of 128 bytes
 
@@ -36,79 +36,79 @@ data Tried : Checked → Type 0 where
   checksum : Tried (checked.Refused ChecksumWrong)
   secondary : Tried (checked.Refused SecondaryWrong)
 
-tried-or : (b : Bool) (why : Refusal) (c : Checked) → Tried (checked.Refused why) → Tried c → Tried (orRefused b why c)
-tried-or true why c w t = t
-tried-or false why c w t = w
+tried_or : (b : Bool) (why : Refusal) (c : Checked) → Tried (checked.Refused why) → Tried c → Tried (or_refused b why c)
+tried_or true why c w t = t
+tried_or false why c w t = w
 
-tried : (image : List ℕ) → not (eqb (length image) 128) ≡ false → Tried (checkOf image)
-unfolding checkOf
+tried : (image : List ℕ) → not (eqb (length image) 128) ≡ false → Tried (check_of image)
+unfolding check_of
 tried image e =
     rw (not-false (eqb (length image) 128) e)
-    (tried-or (eqb (word_at image 0x07) 0x6D50) MakerWrong _ maker
-    (tried-or (eqb (word_at image 0x0F) (checksumOf image)) ChecksumWrong _ checksum
-    (tried-or (eqb (word_at image 0x17) (secondaryOf image)) SecondaryWrong _ secondary
+    (tried_or (eqb (word_at image 0x07) 0x6D50) MakerWrong _ maker
+    (tried_or (eqb (word_at image 0x0F) (checksum_of image)) ChecksumWrong _ checksum
+    (tried_or (eqb (word_at image 0x17) (secondary_of image)) SecondaryWrong _ secondary
     (sound (word_at image 0x00) (word_at image 0x01) (word_at image 0x02)))))
 
-image-outcome : {c : Checked} → Tried c → (file : List ℕ)
-    → outcome (ifSound c (bytes file))
-    ≡ cond (isFor MakerWrong c) (because MakerWrong) (cond (isFor ChecksumWrong c) (because ChecksumWrong) (cond (isFor SecondaryWrong c) (because SecondaryWrong) fine))
-image-outcome (sound node0 node1 node2) file = refl
-image-outcome maker file = refl
-image-outcome checksum file = refl
-image-outcome secondary file = refl
+image_outcome : {c : Checked} → Tried c → (file : List ℕ)
+    → outcome (if_sound c (bytes file))
+    ≡ cond (is_for MakerWrong c) (because MakerWrong) (cond (is_for ChecksumWrong c) (because ChecksumWrong) (cond (is_for SecondaryWrong c) (because SecondaryWrong) fine))
+image_outcome (sound node0 node1 node2) file = refl
+image_outcome maker file = refl
+image_outcome checksum file = refl
+image_outcome secondary file = refl
 
 -- ---- the calls
 
 module _ (area : ℕ) (file image : List ℕ) where
-  add-in : {r : Reading} → InTurn r → parsed file ≡ r → outcome (added area file image) ≡ first_of (addTests area file image)
-  unfolding added addedTo
-  add-in (whole fs) q =
+  add_in : {r : Reading} → InTurn r → parsed file ≡ r → outcome (added area file image) ≡ first_of (add_tests area file image)
+  unfolding added added_to
+  add_in (whole fs) q =
       rw q
-      (or-else (ltb area (length file + 145)) ArgumentOutside _ _
-      (λ x. or-else (not (eqb (length image) 128)) LengthOutside _ _
-      (λ is. or-else (not (hasRoom fs) || noPlace (whose image) fs) NoPlace _ _
-      (λ y. or-else (anyTwice (addressesOf fs)) ListedTwice _ _
-      (λ z. image-outcome (tried image is) (fileOf (withAdded image fs)))))))
-  add-in damaged q = rw q (or-else (ltb area (length file + 145)) ArgumentOutside _ _ (λ x. or-else (not (eqb (length image) 128)) LengthOutside _ _ (λ y. refl)))
-  add-in early q = rw q (or-else (ltb area (length file + 145)) ArgumentOutside _ _ (λ x. or-else (not (eqb (length image) 128)) LengthOutside _ _ (λ y. refl)))
+      (or_else_lem (ltb area (length file + 145)) ArgumentOutside _ _
+      (λ x. or_else_lem (not (eqb (length image) 128)) LengthOutside _ _
+      (λ is. or_else_lem (not (has_room fs) || no_place (whose image) fs) NoPlace _ _
+      (λ y. or_else_lem (any_twice (addresses_of fs)) ListedTwice _ _
+      (λ z. image_outcome (tried image is) (file_of (with_added image fs)))))))
+  add_in damaged q = rw q (or_else_lem (ltb area (length file + 145)) ArgumentOutside _ _ (λ x. or_else_lem (not (eqb (length image) 128)) LengthOutside _ _ (λ y. refl)))
+  add_in early q = rw q (or_else_lem (ltb area (length file + 145)) ArgumentOutside _ _ (λ x. or_else_lem (not (eqb (length image) 128)) LengthOutside _ _ (λ y. refl)))
 
-  pub add-exactly : outcome (added area file image) ≡ first_of (addTests area file image)
-  add-exactly = add-in (in-turn file) refl
+  pub add-exactly : outcome (added area file image) ≡ first_of (add_tests area file image)
+  add-exactly = add_in (in_turn_lem file) refl
 
 module _ (area : ℕ) (file : List ℕ) (a : ℕ) where
-  drop-in : {r : Reading} → InTurn r → parsed file ≡ r → outcome (dropped area file a) ≡ first_of (dropTests area file a)
-  unfolding dropped droppedFrom
-  drop-in (whole fs) q =
+  drop_in : {r : Reading} → InTurn r → parsed file ≡ r → outcome (dropped area file a) ≡ first_of (drop_tests area file a)
+  unfolding dropped dropped_from
+  drop_in (whole fs) q =
       rw q
-      (or-else (ltb area (length file)) ArgumentOutside _ _
-      (λ x. or-else (not (isAmong a (addressesOf fs))) NoSuchCard _ _
-      (λ y. or-else (not (hasRoom fs)) NoPlace _ _
-      (λ z. or-else (anyTwice (addressesOf fs)) ListedTwice _ _ (λ w. refl)))))
-  drop-in damaged q = rw q (or-else (ltb area (length file)) ArgumentOutside _ _ (λ x. refl))
-  drop-in early q = rw q (or-else (ltb area (length file)) ArgumentOutside _ _ (λ x. refl))
+      (or_else_lem (ltb area (length file)) ArgumentOutside _ _
+      (λ x. or_else_lem (not (is_among a (addresses_of fs))) NoSuchCard _ _
+      (λ y. or_else_lem (not (has_room fs)) NoPlace _ _
+      (λ z. or_else_lem (any_twice (addresses_of fs)) ListedTwice _ _ (λ w. refl)))))
+  drop_in damaged q = rw q (or_else_lem (ltb area (length file)) ArgumentOutside _ _ (λ x. refl))
+  drop_in early q = rw q (or_else_lem (ltb area (length file)) ArgumentOutside _ _ (λ x. refl))
 
-  pub drop-exactly : outcome (dropped area file a) ≡ first_of (dropTests area file a)
-  drop-exactly = drop-in (in-turn file) refl
+  pub drop-exactly : outcome (dropped area file a) ≡ first_of (drop_tests area file a)
+  drop-exactly = drop_in (in_turn_lem file) refl
 
-pub import-exactly : (area : ℕ) (row : List ℕ) → outcome (imported area row) ≡ first_of (importTests area row)
-unfolding imported allSound
+pub import-exactly : (area : ℕ) (row : List ℕ) → outcome (imported area row) ≡ first_of (import_tests area row)
+unfolding imported all_sound
 import-exactly area row =
-    or-else (ltb area (145 * (length row / 128) + 5)) ArgumentOutside _ _
-    (λ x. or-else (not (eqb (length row % 128) 0)) LengthOutside _ _
-    (λ x. or-else (ltb 64 (length row / 128)) NoPlace _ _
-    (λ x. or-else (anyTwice (addressesIn (imagesIn row))) ListedTwice _ _
-    (λ x. or-else (anyFor MakerWrong (imagesIn row)) MakerWrong _ _
-    (λ x. or-else (anyFor ChecksumWrong (imagesIn row)) ChecksumWrong _ _
-    (λ x. or-else (anyFor SecondaryWrong (imagesIn row)) SecondaryWrong _ _ (λ y. refl)))))))
+    or_else_lem (ltb area (145 * (length row / 128) + 5)) ArgumentOutside _ _
+    (λ x. or_else_lem (not (eqb (length row % 128) 0)) LengthOutside _ _
+    (λ x. or_else_lem (ltb 64 (length row / 128)) NoPlace _ _
+    (λ x. or_else_lem (any_twice (addresses_in (images_in row))) ListedTwice _ _
+    (λ x. or_else_lem (any_for MakerWrong (images_in row)) MakerWrong _ _
+    (λ x. or_else_lem (any_for ChecksumWrong (images_in row)) ChecksumWrong _ _
+    (λ x. or_else_lem (any_for SecondaryWrong (images_in row)) SecondaryWrong _ _ (λ y. refl)))))))
 
 module _ (area : ℕ) (file : List ℕ) where
-  export-in : {r : Reading} → InTurn r → parsed file ≡ r → outcome (exported area file) ≡ first_of (exportTests area file)
+  export_in : {r : Reading} → InTurn r → parsed file ≡ r → outcome (exported area file) ≡ first_of (export_tests area file)
   unfolding exported read
-  export-in (whole fs) q = rw q
-      (or-else (ltb area 8192) ArgumentOutside _ _
-      (λ x. roomy-faults (λ r. outcome (onCatalogue r (λ gs. bytes (movedOut gs)))) (hasRoom fs) (anyTwice (addressesOf fs)) fs refl refl refl))
-  export-in damaged q = rw q (or-else (ltb area 8192) ArgumentOutside _ _ (λ x. refl))
-  export-in early q = rw q (or-else (ltb area 8192) ArgumentOutside _ _ (λ x. refl))
+  export_in (whole fs) q = rw q
+      (or_else_lem (ltb area 8192) ArgumentOutside _ _
+      (λ x. roomy_faults (λ r. outcome (on_catalogue r (λ gs. bytes (moved_out gs)))) (has_room fs) (any_twice (addresses_of fs)) fs refl refl refl))
+  export_in damaged q = rw q (or_else_lem (ltb area 8192) ArgumentOutside _ _ (λ x. refl))
+  export_in early q = rw q (or_else_lem (ltb area 8192) ArgumentOutside _ _ (λ x. refl))
 
-  pub export-exactly : outcome (exported area file) ≡ first_of (exportTests area file)
-  export-exactly = export-in (in-turn file) refl
+  pub export-exactly : outcome (exported area file) ≡ first_of (export_tests area file)
+  export-exactly = export_in (in_turn_lem file) refl

@@ -6,84 +6,84 @@ use mathlib.Core.Bool.{Bool, true, false, cond, ◌&&◌, ◌||◌, not}
 use mathlib.Core.List.{List}
 use Rattle.refusal.specs.declared.Refusal.TheVariants.{NoSuchCard, NoPlace, ListedTwice}
 use Rattle.catalogue_rules.specs.Field.{Field}
-use Rattle.catalogue_rules.specs.Reading.{Reading, catalogue, parsed, hasRoom, addressesOf, isAmong, anyTwice}
+use Rattle.catalogue_rules.specs.Reading.{Reading, catalogue, parsed, has_room, addresses_of, is_among, any_twice}
 use Rattle.catalogue_rules.specs.declared.Place.{Place}
 use Rattle.catalogue_rules.specs.declared.Place.TheVariants.{At, Refused}
-use Rattle.catalogue_rules.specs.Lookup.{spotsAt, lastSpot, whereSound, latestIn, givenIn, inOverride, inMain, elseMain, lookedUp}
-use Rattle.catalogue_fits.specs.Tests.{Outcome, fine, because, first_of, latestTests, givenTests, lookupTests}
-use Rattle.catalogue_fits.specs.Fits.{ofPlace, ofHit}
-use Rattle.catalogue_fits.proofs.Readings.{InTurn, whole, damaged, early, in-turn, faults}
+use Rattle.catalogue_rules.specs.Lookup.{spots_at, last_spot, where_sound, latest_in, given_in, in_override, in_main, else_main, looked_up}
+use Rattle.catalogue_fits.specs.Tests.{Outcome, fine, because, first_of, latest_tests, given_tests, lookup_tests}
+use Rattle.catalogue_fits.specs.Fits.{of_place, of_hit}
+use Rattle.catalogue_fits.proofs.Readings.{InTurn, whole, damaged, early, in_turn_lem, faults}
 use Rattle.catalogue_fits.proofs.Places.{latest-found, given-found}
 
 module _ (file : List ℕ) (a : ℕ) where
-  latest-in : {r : Reading} → InTurn r → parsed file ≡ r → ofPlace (latestIn a (parsed file)) ≡ first_of (latestTests file a)
-  unfolding latestIn
-  latest-in (whole fs) q = rw q (latest-found file fs q a (hasRoom fs) (anyTwice (addressesOf fs)))
-  latest-in damaged q = rw q
-  latest-in early q = rw q
+  latest_in_lem : {r : Reading} → InTurn r → parsed file ≡ r → of_place (latest_in a (parsed file)) ≡ first_of (latest_tests file a)
+  unfolding latest_in
+  latest_in_lem (whole fs) q = rw q (latest-found file fs q a (has_room fs) (any_twice (addresses_of fs)))
+  latest_in_lem damaged q = rw q
+  latest_in_lem early q = rw q
 
-  pub latest-exactly : ofPlace (latestIn a (parsed file)) ≡ first_of (latestTests file a)
-  latest-exactly = latest-in (in-turn file) refl
+  pub latest-exactly : of_place (latest_in a (parsed file)) ≡ first_of (latest_tests file a)
+  latest-exactly = latest_in_lem (in_turn_lem file) refl
 
   module _ (n : ℕ) where
-    given-in : {r : Reading} → InTurn r → parsed file ≡ r → ofPlace (givenIn a n (parsed file)) ≡ first_of (givenTests file a n)
-    unfolding givenIn
-    given-in (whole fs) q = rw q (given-found a n fs (hasRoom fs) (anyTwice (addressesOf fs)))
-    given-in damaged q = rw q
-    given-in early q = rw q
+    given_in_lem : {r : Reading} → InTurn r → parsed file ≡ r → of_place (given_in a n (parsed file)) ≡ first_of (given_tests file a n)
+    unfolding given_in
+    given_in_lem (whole fs) q = rw q (given-found a n fs (has_room fs) (any_twice (addresses_of fs)))
+    given_in_lem damaged q = rw q
+    given_in_lem early q = rw q
 
-    pub given-exactly : ofPlace (givenIn a n (parsed file)) ≡ first_of (givenTests file a n)
-    given-exactly = given-in (in-turn file) refl
+    pub given-exactly : of_place (given_in a n (parsed file)) ≡ first_of (given_tests file a n)
+    given-exactly = given_in_lem (in_turn_lem file) refl
 
 -- ---- two files
 
-override-outcome : (p : Place) → ofHit (inOverride p) ≡ ofPlace p
-override-outcome (At start len) = refl
-override-outcome (Refused why) = refl
+override_outcome : (p : Place) → of_hit (in_override p) ≡ of_place p
+override_outcome (At start len) = refl
+override_outcome (Refused why) = refl
 
-main-outcome : (p : Place) → ofHit (inMain p) ≡ ofPlace p
-main-outcome (At start len) = refl
-main-outcome (Refused why) = refl
+main_outcome : (p : Place) → of_hit (in_main p) ≡ of_place p
+main_outcome (At start len) = refl
+main_outcome (Refused why) = refl
 
 -- The override's faults alone; those of either file.
-own-faults : (room twice : Bool) → faults room twice ≡ cond (not room || false) (because NoPlace) (cond (twice || false) (because ListedTwice) fine)
-own-faults true true = refl
-own-faults true false = refl
-own-faults false twice = refl
+own_faults : (room twice : Bool) → faults room twice ≡ cond (not room || false) (because NoPlace) (cond (twice || false) (because ListedTwice) fine)
+own_faults true true = refl
+own_faults true false = refl
+own_faults false twice = refl
 
-both-faults : (room room' twice : Bool) → faults (room && room') twice ≡ cond (not room || not room') (because NoPlace) (cond twice (because ListedTwice) fine)
-both-faults true room' twice = refl
-both-faults false room' twice = refl
+both_faults : (room room' twice : Bool) → faults (room && room') twice ≡ cond (not room || not room') (because NoPlace) (cond twice (because ListedTwice) fine)
+both_faults true room' twice = refl
+both_faults false room' twice = refl
 
 module _ (own main : List ℕ) (a : ℕ) where
   -- The override lacks the card.
-  lacks-in : (fs : List Field) → parsed own ≡ catalogue fs → isAmong a (addressesOf fs) ≡ false → {m : Reading} → InTurn m → parsed main ≡ m
-      → ofHit (lookedUp a (parsed own) (parsed main)) ≡ first_of (lookupTests own main a)
-  unfolding lookedUp elseMain
-  lacks-in fs q e (whole gs) q' = rw (q, q', e)
-      (main-outcome (whereSound (hasRoom fs && hasRoom gs) (anyTwice (addressesOf fs) || anyTwice (addressesOf gs)) (lastSpot (Refused NoSuchCard) (spotsAt a 0 gs)))
-      ∙ latest-found main gs q' a (hasRoom fs && hasRoom gs) (anyTwice (addressesOf fs) || anyTwice (addressesOf gs))
-      ∙ ap (λ (o : Outcome). cond (not (isAmong a (addressesOf gs))) (because NoSuchCard) o) (both-faults (hasRoom fs) (hasRoom gs) (anyTwice (addressesOf fs) || anyTwice (addressesOf gs))))
-  lacks-in fs q e damaged q' = rw (q, q', e)
-  lacks-in fs q e early q' = rw (q, q', e)
+  lacks_in : (fs : List Field) → parsed own ≡ catalogue fs → is_among a (addresses_of fs) ≡ false → {m : Reading} → InTurn m → parsed main ≡ m
+      → of_hit (looked_up a (parsed own) (parsed main)) ≡ first_of (lookup_tests own main a)
+  unfolding looked_up else_main
+  lacks_in fs q e (whole gs) q' = rw (q, q', e)
+      (main_outcome (where_sound (has_room fs && has_room gs) (any_twice (addresses_of fs) || any_twice (addresses_of gs)) (last_spot (Refused NoSuchCard) (spots_at a 0 gs)))
+      ∙ latest-found main gs q' a (has_room fs && has_room gs) (any_twice (addresses_of fs) || any_twice (addresses_of gs))
+      ∙ ap (λ (o : Outcome). cond (not (is_among a (addresses_of gs))) (because NoSuchCard) o) (both_faults (has_room fs) (has_room gs) (any_twice (addresses_of fs) || any_twice (addresses_of gs))))
+  lacks_in fs q e damaged q' = rw (q, q', e)
+  lacks_in fs q e early q' = rw (q, q', e)
 
-  has_in : (fs : List Field) → parsed own ≡ catalogue fs → isAmong a (addressesOf fs) ≡ true → ofHit (lookedUp a (parsed own) (parsed main)) ≡ first_of (lookupTests own main a)
-  unfolding lookedUp latestIn
+  has_in : (fs : List Field) → parsed own ≡ catalogue fs → is_among a (addresses_of fs) ≡ true → of_hit (looked_up a (parsed own) (parsed main)) ≡ first_of (lookup_tests own main a)
+  unfolding looked_up latest_in
   has_in fs q e = rw (q, e)
-      (override-outcome (whereSound (hasRoom fs) (anyTwice (addressesOf fs)) (lastSpot (Refused NoSuchCard) (spotsAt a 0 fs)))
-      ∙ latest-found own fs q a (hasRoom fs) (anyTwice (addressesOf fs))
-      ∙ ap (λ (t : Bool). cond (not t) (because NoSuchCard) (faults (hasRoom fs) (anyTwice (addressesOf fs)))) e
-      ∙ own-faults (hasRoom fs) (anyTwice (addressesOf fs)))
+      (override_outcome (where_sound (has_room fs) (any_twice (addresses_of fs)) (last_spot (Refused NoSuchCard) (spots_at a 0 fs)))
+      ∙ latest-found own fs q a (has_room fs) (any_twice (addresses_of fs))
+      ∙ ap (λ (t : Bool). cond (not t) (because NoSuchCard) (faults (has_room fs) (any_twice (addresses_of fs)))) e
+      ∙ own_faults (has_room fs) (any_twice (addresses_of fs)))
 
-  lookup-if : (fs : List Field) → parsed own ≡ catalogue fs → (t : Bool) → isAmong a (addressesOf fs) ≡ t → ofHit (lookedUp a (parsed own) (parsed main)) ≡ first_of (lookupTests own main a)
+  lookup-if : (fs : List Field) → parsed own ≡ catalogue fs → (t : Bool) → is_among a (addresses_of fs) ≡ t → of_hit (looked_up a (parsed own) (parsed main)) ≡ first_of (lookup_tests own main a)
   lookup-if fs q true e = has_in fs q e
-  lookup-if fs q false e = lacks-in fs q e (in-turn main) refl
+  lookup-if fs q false e = lacks_in fs q e (in_turn_lem main) refl
 
-  lookup-in : {r : Reading} → InTurn r → parsed own ≡ r → ofHit (lookedUp a (parsed own) (parsed main)) ≡ first_of (lookupTests own main a)
-  unfolding lookedUp
-  lookup-in (whole fs) q = lookup-if fs q (isAmong a (addressesOf fs)) refl
-  lookup-in damaged q = rw q
-  lookup-in early q = rw q
+  lookup_in : {r : Reading} → InTurn r → parsed own ≡ r → of_hit (looked_up a (parsed own) (parsed main)) ≡ first_of (lookup_tests own main a)
+  unfolding looked_up
+  lookup_in (whole fs) q = lookup-if fs q (is_among a (addresses_of fs)) refl
+  lookup_in damaged q = rw q
+  lookup_in early q = rw q
 
-  pub lookup-exactly : ofHit (lookedUp a (parsed own) (parsed main)) ≡ first_of (lookupTests own main a)
-  lookup-exactly = lookup-in (in-turn own) refl
+  pub lookup-exactly : of_hit (looked_up a (parsed own) (parsed main)) ≡ first_of (lookup_tests own main a)
+  lookup-exactly = lookup_in (in_turn_lem own) refl

@@ -5,15 +5,15 @@ use mathlib.Core.Path.{◌≡◌, refl}
 use mathlib.Core.Bool.{Bool, true, false, cond, not}
 use mathlib.Core.List.{List, [], ◌∷◌}
 use lib.Dec.{eqb}
-use Rattle.bits.proofs.Tests.{of-cond}
+use Rattle.bits.proofs.Tests.{of_cond}
 use Rattle.refusal.specs.declared.Refusal.TheVariants.{FieldDamaged, FileEndsEarly, NoPlace, ListedTwice}
 use Rattle.catalogue_rules.specs.Field.{Field, fields_of, left_of}
 use Rattle.catalogue_rules.specs.declared.Turn.{Turn}
 use Rattle.catalogue_rules.specs.declared.Turn.TheVariants.{Begun}
-use Rattle.catalogue_rules.specs.Turns.{after, isDamaged}
-use Rattle.catalogue_rules.specs.Reading.{Reading, catalogue, refused, with, is_last, ends, reading, parsed, read, judged, hasRoom, addressesOf, anyTwice}
-use Rattle.catalogue_fits.specs.Tests.{Outcome, fine, because, first_of, checkTests}
-use Rattle.catalogue_fits.specs.Fits.{ofJudged}
+use Rattle.catalogue_rules.specs.Turns.{after, is_damaged}
+use Rattle.catalogue_rules.specs.Reading.{Reading, catalogue, refused, with, is_last, ends, reading, parsed, read, judged, has_room, addresses_of, any_twice}
+use Rattle.catalogue_fits.specs.Tests.{Outcome, fine, because, first_of, check_tests}
+use Rattle.catalogue_fits.specs.Fits.{of_judged}
 
 -- What fields taken in turn come to.
 pub data InTurn : Reading → Type 0 where
@@ -21,39 +21,39 @@ pub data InTurn : Reading → Type 0 where
   damaged : InTurn (refused FieldDamaged)
   early : InTurn (refused FileEndsEarly)
 
-with-turn : (f : Field) {r : Reading} → InTurn r → InTurn (with f r)
-with-turn f (whole fs) = whole (f ∷ fs)
-with-turn f damaged = damaged
-with-turn f early = early
+with_turn : (f : Field) {r : Reading} → InTurn r → InTurn (with f r)
+with_turn f (whole fs) = whole (f ∷ fs)
+with_turn f damaged = damaged
+with_turn f early = early
 
-reading-turn : (gs : List Field) (turn : Turn) (n : ℕ) (left : List ℕ) → InTurn (reading turn n gs left)
+reading_turn : (gs : List Field) (turn : Turn) (n : ℕ) (left : List ℕ) → InTurn (reading turn n gs left)
 unfolding reading
-reading-turn [] turn n left = early
-reading-turn (f ∷ gs) turn n left =
-    of-cond InTurn (eqb f.tag 4)
-    (of-cond InTurn (ends turn n f (is_last gs left)) (whole []) damaged)
-    (of-cond InTurn (isDamaged (after turn f)) damaged (with-turn f (reading-turn gs (after turn f) (n + 1) left)))
+reading_turn [] turn n left = early
+reading_turn (f ∷ gs) turn n left =
+    of_cond InTurn (eqb f.tag 4)
+    (of_cond InTurn (ends turn n f (is_last gs left)) (whole []) damaged)
+    (of_cond InTurn (is_damaged (after turn f)) damaged (with_turn f (reading_turn gs (after turn f) (n + 1) left)))
 
-pub in-turn : (file : List ℕ) → InTurn (parsed file)
-in-turn file = reading-turn (fields_of file) Begun 0 (left_of file)
+pub in_turn_lem : (file : List ℕ) → InTurn (parsed file)
+in_turn_lem file = reading_turn (fields_of file) Begun 0 (left_of file)
 
 -- 18, then 19; what is read of a whole file has these, whatever is made of it.
 abbrev pub faults : Bool → Bool → Outcome
 faults room twice = cond (not room) (because NoPlace) (cond twice (because ListedTwice) fine)
 
-pub roomy-faults : (g : Reading → Outcome) (room twice : Bool) (fs : List Field)
+pub roomy_faults : (g : Reading → Outcome) (room twice : Bool) (fs : List Field)
     → g (catalogue fs) ≡ fine → g (refused ListedTwice) ≡ because ListedTwice → g (refused NoPlace) ≡ because NoPlace
     → g (cond room (cond twice (refused ListedTwice) (catalogue fs)) (refused NoPlace)) ≡ faults room twice
-roomy-faults g true true fs sound listed full = listed
-roomy-faults g true false fs sound listed full = sound
-roomy-faults g false twice fs sound listed full = full
+roomy_faults g true true fs sound listed full = listed
+roomy_faults g true false fs sound listed full = sound
+roomy_faults g false twice fs sound listed full = full
 
 module _ (file : List ℕ) where
-  check-in : {r : Reading} → InTurn r → parsed file ≡ r → ofJudged (judged (read file)) ≡ first_of (checkTests file)
+  check_in : {r : Reading} → InTurn r → parsed file ≡ r → of_judged (judged (read file)) ≡ first_of (check_tests file)
   unfolding read
-  check-in (whole fs) q = rw q (roomy-faults (λ r. ofJudged (judged r)) (hasRoom fs) (anyTwice (addressesOf fs)) fs refl refl refl)
-  check-in damaged q = rw q
-  check-in early q = rw q
+  check_in (whole fs) q = rw q (roomy_faults (λ r. of_judged (judged r)) (has_room fs) (any_twice (addresses_of fs)) fs refl refl refl)
+  check_in damaged q = rw q
+  check_in early q = rw q
 
-  pub check-exactly : ofJudged (judged (read file)) ≡ first_of (checkTests file)
-  check-exactly = check-in (in-turn file) refl
+  pub check-exactly : of_judged (judged (read file)) ≡ first_of (check_tests file)
+  check-exactly = check_in (in_turn_lem file) refl

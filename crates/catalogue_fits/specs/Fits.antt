@@ -14,25 +14,25 @@ use Rattle.catalogue_rules.specs.LookupContracts.{Latest, Given, LooksUp, Part, 
 use Rattle.catalogue_rules.specs.declared.Written as written
 use Rattle.catalogue_rules.specs.declared.Written.{Written}
 use Rattle.catalogue_rules.specs.PutContracts.{Adds, Drops, Imports, Exports}
-use Rattle.catalogue_fits.specs.Tests.{Test, Outcome, fine, because, first_of, checkTests, latestTests, givenTests, lookupTests, addTests, dropTests, importTests, exportTests}
+use Rattle.catalogue_fits.specs.Tests.{Test, Outcome, fine, because, first_of, check_tests, latest_tests, given_tests, lookup_tests, add_tests, drop_tests, import_tests, export_tests}
 
 -- What an answer says of a refusal.
-abbrev pub ofJudged : Judged → Outcome
-ofJudged (judged.TheVariants.Sound cards fields) = fine
-ofJudged (judged.TheVariants.Refused why) = because why
+abbrev pub of_judged : Judged → Outcome
+of_judged (judged.TheVariants.Sound cards fields) = fine
+of_judged (judged.TheVariants.Refused why) = because why
 
-abbrev pub ofPlace : Place → Outcome
-ofPlace (place.TheVariants.At start len) = fine
-ofPlace (place.TheVariants.Refused why) = because why
+abbrev pub of_place : Place → Outcome
+of_place (place.TheVariants.At start len) = fine
+of_place (place.TheVariants.Refused why) = because why
 
-abbrev pub ofHit : Hit → Outcome
-ofHit (hit.TheVariants.InOverride start len) = fine
-ofHit (hit.TheVariants.InMain start len) = fine
-ofHit (hit.TheVariants.Nowhere why) = because why
+abbrev pub of_hit : Hit → Outcome
+of_hit (hit.TheVariants.InOverride start len) = fine
+of_hit (hit.TheVariants.InMain start len) = fine
+of_hit (hit.TheVariants.Nowhere why) = because why
 
-abbrev pub ofWritten : Written → Outcome
-ofWritten (written.TheVariants.Bytes n) = fine
-ofWritten (written.TheVariants.Refused why) = because why
+abbrev pub of_written : Written → Outcome
+of_written (written.TheVariants.Bytes n) = fine
+of_written (written.TheVariants.Refused why) = because why
 
 -- Two results that meet a contract are equal.
 module _ {A : Type 0} where
@@ -51,17 +51,17 @@ pub record Result : Type 0 where
 
 -- A refused change leaves every byte of the area as it came.
 pub record Changes (meets : Written → List ℕ → List ℕ → Type 0) (area : List ℕ) (tests : List Test) : Type 0 where
-  pub answers : Answers {A = Result} (λ r. meets r.answer area r.area) (λ r. ofWritten r.answer) tests
+  pub answers : Answers {A = Result} (λ r. meets r.answer area r.area) (λ r. of_written r.answer) tests
   pub untouched : (r : Result) → meets r.answer area r.area → (why : Refusal) → r.answer ≡ written.TheVariants.Refused why → r.area ≡ area
 
 pub record NothingElseFits : Type 0 where
-  pub check : (file : List ℕ) → Answers (Checks file) ofJudged (checkTests file)
-  pub latest : (file : List ℕ) (a : ℕ) → Answers (Latest file a) ofPlace (latestTests file a)
-  pub given : (file : List ℕ) (a n : ℕ) → Answers (Given file a n) ofPlace (givenTests file a n)
-  pub lookup : (own main : List ℕ) (a : ℕ) → Answers (LooksUp own main a) ofHit (lookupTests own main a)
+  pub check : (file : List ℕ) → Answers (Checks file) of_judged (check_tests file)
+  pub latest : (file : List ℕ) (a : ℕ) → Answers (Latest file a) of_place (latest_tests file a)
+  pub given : (file : List ℕ) (a n : ℕ) → Answers (Given file a n) of_place (given_tests file a n)
+  pub lookup : (own main : List ℕ) (a : ℕ) → Answers (LooksUp own main a) of_hit (lookup_tests own main a)
   pub part : (file : List ℕ) (start len : ℕ) → Only (Part file start len)
   pub image_of : (own main : List ℕ) (found : Hit) → Only (ImageOf own main found)
-  pub add : (file image area : List ℕ) → Changes (Adds file image) area (addTests (length area) file image)
-  pub dropOldest : (file : List ℕ) (a : ℕ) (area : List ℕ) → Changes (Drops file a) area (dropTests (length area) file a)
-  pub import : (row area : List ℕ) → Changes (Imports row) area (importTests (length area) row)
-  pub export : (file area : List ℕ) → Changes (Exports file) area (exportTests (length area) file)
+  pub add : (file image area : List ℕ) → Changes (Adds file image) area (add_tests (length area) file image)
+  pub drop_oldest : (file : List ℕ) (a : ℕ) (area : List ℕ) → Changes (Drops file a) area (drop_tests (length area) file a)
+  pub import : (row area : List ℕ) → Changes (Imports row) area (import_tests (length area) row)
+  pub export : (file area : List ℕ) → Changes (Exports file) area (export_tests (length area) file)

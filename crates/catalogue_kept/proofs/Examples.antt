@@ -5,9 +5,9 @@ use mathlib.Core.Path.{◌≡◌, refl}
 use mathlib.Core.List.{List, [], ◌∷◌}
 use Rattle.catalogue_rules.specs.Field.{Field, field}
 use Rattle.catalogue_rules.specs.Turns.{address_of}
-use Rattle.catalogue_rules.specs.Reading.{addressesOf}
-use Rattle.catalogue_rules.specs.Cards.{versionsFrom, versionsAt}
-use Rattle.catalogue_rules.specs.Edit.{latestNumber, atCardsEnd, withVersion, withAdded, withoutImage, withoutOldest, withoutVersion}
+use Rattle.catalogue_rules.specs.Reading.{addresses_of}
+use Rattle.catalogue_rules.specs.Cards.{versions_from, versions_at}
+use Rattle.catalogue_rules.specs.Edit.{latest_number, at_cards_end, with_version, with_added, without_image, without_oldest, without_version}
 use Rattle.catalogue_kept.proofs.Fields.{version}
 
 address : ℕ → List ℕ
@@ -23,24 +23,24 @@ small =
     field 1 (address 7) ∷ field 2 (3 ∷ 0 ∷ []) ∷ field 3 (30 ∷ []) ∷ field 200 [] ∷ field 1 (address 8) ∷ field 2 (1 ∷ 0 ∷ []) ∷ field 3 (10 ∷ []) ∷ []
 
 -- A version more of card 7: its number is 4, and card 8 is as it was.
-added-version : versionsAt 7 (withAdded (new 7) small) ≡ version 3 (30 ∷ []) ∷ version 4 (new 7) ∷ []
-unfolding withAdded withVersion atCardsEnd latestNumber versionsAt versionsFrom addressesOf address_of small address new
+added-version : versions_at 7 (with_added (new 7) small) ≡ version 3 (30 ∷ []) ∷ version 4 (new 7) ∷ []
+unfolding with_added with_version at_cards_end latest_number versions_at versions_from addresses_of address_of small address new
 added-version = refl
 
-other-card : versionsAt 8 (withAdded (new 7) small) ≡ version 1 (10 ∷ []) ∷ []
-unfolding withAdded withVersion atCardsEnd latestNumber versionsAt versionsFrom addressesOf address_of small address new
-other-card = refl
+other_card : versions_at 8 (with_added (new 7) small) ≡ version 1 (10 ∷ []) ∷ []
+unfolding with_added with_version at_cards_end latest_number versions_at versions_from addresses_of address_of small address new
+other_card = refl
 
 -- Card 9 is new and begins with 1.
-added-card : versionsAt 9 (withAdded (new 9) small) ≡ version 1 (new 9) ∷ []
-unfolding withAdded latestNumber versionsAt versionsFrom addressesOf address_of small address new
+added-card : versions_at 9 (with_added (new 9) small) ≡ version 1 (new 9) ∷ []
+unfolding with_added latest_number versions_at versions_from addresses_of address_of small address new
 added-card = refl
 
 -- Dropped again, the oldest goes first; with its only version a card goes, and its unknown field stays.
-dropped-oldest : versionsAt 7 (withoutVersion 7 (withAdded (new 7) small)) ≡ version 4 (new 7) ∷ []
-unfolding withoutVersion withoutOldest withoutImage withAdded withVersion atCardsEnd latestNumber versionsAt versionsFrom addressesOf address_of small address new
+dropped-oldest : versions_at 7 (without_version 7 (with_added (new 7) small)) ≡ version 4 (new 7) ∷ []
+unfolding without_version without_oldest without_image with_added with_version at_cards_end latest_number versions_at versions_from addresses_of address_of small address new
 dropped-oldest = refl
 
-dropped-card : withoutVersion 7 small ≡ field 200 [] ∷ field 1 (address 8) ∷ field 2 (1 ∷ 0 ∷ []) ∷ field 3 (10 ∷ []) ∷ []
-unfolding withoutVersion withoutOldest withoutImage versionsFrom address_of small address
+dropped-card : without_version 7 small ≡ field 200 [] ∷ field 1 (address 8) ∷ field 2 (1 ∷ 0 ∷ []) ∷ field 3 (10 ∷ []) ∷ []
+unfolding without_version without_oldest without_image versions_from address_of small address
 dropped-card = refl

@@ -9,129 +9,129 @@ use Rattle.refusal.specs.declared.Refusal.TheVariants.{NoSuchCard}
 use Rattle.catalogue_rules.specs.Field.{Field}
 use Rattle.catalogue_rules.specs.declared.Turn.TheVariants.{Begun}
 use Rattle.catalogue_rules.specs.Reading.{catalogue, read}
-use Rattle.catalogue_rules.specs.Cards.{versionsAt}
+use Rattle.catalogue_rules.specs.Cards.{versions_at}
 use Rattle.catalogue_rules.specs.RoundTrip.{WellFormed}
-use Rattle.catalogue_rules.proofs.Fit.{accepted-is-well-formed}
+use Rattle.catalogue_rules.proofs.Fit.{accepted_is_well_formed_lem}
 use Rattle.catalogue_rules.specs.Lookup.{image, none}
-use Rattle.catalogue_rules.specs.Places.{last_of, numberedIn, latestShown, givenShown}
-use Rattle.catalogue_rules.proofs.Shows.{places-show}
-use Rattle.catalogue_rules.specs.Edit.{whose, latestNumber, leaves, withAdded, withoutVersion}
+use Rattle.catalogue_rules.specs.Places.{last_of, numbered_in, latest_shown, given_shown}
+use Rattle.catalogue_rules.proofs.Shows.{places_show_lem}
+use Rattle.catalogue_rules.specs.Edit.{whose, latest_number, leaves, with_added, without_version}
 use Rattle.catalogue_kept.specs.Kept.{Becomes}
 use Rattle.catalogue_kept.proofs.Told.{Told, told}
-use Rattle.catalogue_kept.proofs.Files.{written-is-the-changed}
-use Rattle.catalogue_kept.specs.After.{Added, oldestNumber, IsGone, Dropped, WhatWasAddedIsTheLatest, ADropTakesTheOldest}
-use Rattle.catalogue_kept.proofs.Rows.{later, last-is, new_is, others-are, oldest-gone, rest-are, last-stays, none-later}
+use Rattle.catalogue_kept.proofs.Files.{written_is_the_changed_lem}
+use Rattle.catalogue_kept.specs.After.{Added, oldest_number, IsGone, Dropped, WhatWasAddedIsTheLatest, ADropTakesTheOldest}
+use Rattle.catalogue_kept.proofs.Rows.{later, last_is, new_is, others_are, oldest-gone, rest_are, last-stays, none-later}
 use Rattle.catalogue_kept.proofs.Fields.{version}
 use Rattle.catalogue_kept.proofs.Grows.{added_more, added-others, added-listed, added-lists}
-use Rattle.catalogue_kept.proofs.Shrinks.{versions-rise, dropped-others, dropped-later, dropped-lists, dropped-left, dropped-kept}
+use Rattle.catalogue_kept.proofs.Shrinks.{versions_rise, dropped-others, dropped-later, dropped-lists, dropped-left, dropped-kept}
 use Rattle.catalogue_kept.proofs.Stays.{latest-stays, stays}
 
 -- The fields of an accepted file are in turn.
-in-turn : (fs : List Field) → WellFormed fs → Told Begun fs
-in-turn fs w = told fs Begun w.turns w.sizes
+in_turn_lem : (fs : List Field) → WellFormed fs → Told Begun fs
+in_turn_lem fs w = told fs Begun w.turns w.sizes
 
 -- ---- an addition
 
-module _ (file new after : List ℕ) (fs : List Field) (w : WellFormed fs) (before : read file ≡ catalogue fs) (now : read after ≡ catalogue (withAdded new fs)) where
-  added-latest : latestShown (whose new) after ≡ image new
+module _ (file new after : List ℕ) (fs : List Field) (w : WellFormed fs) (before : read file ≡ catalogue fs) (now : read after ≡ catalogue (with_added new fs)) where
+  added-latest : latest_shown (whose new) after ≡ image new
   added-latest =
-      places-show.latest (whose new) after (withAdded new fs) now
+      places_show_lem.latest (whose new) after (with_added new fs) now
       ∙ ap (last_of (none NoSuchCard)) (added_more new fs)
-      ∙ last-is (none NoSuchCard) (versionsAt (whose new) fs) (version (latestNumber (versionsAt (whose new) fs) + 1) new)
+      ∙ last_is (none NoSuchCard) (versions_at (whose new) fs) (version (latest_number (versions_at (whose new) fs) + 1) new)
 
-  added-given : givenShown (whose new) (latestNumber (versionsAt (whose new) fs) + 1) after ≡ image new
+  added-given : given_shown (whose new) (latest_number (versions_at (whose new) fs) + 1) after ≡ image new
   added-given =
-      places-show.given (whose new) (latestNumber (versionsAt (whose new) fs) + 1) after (withAdded new fs) now
-      ∙ ap (numberedIn (latestNumber (versionsAt (whose new) fs) + 1)) (added_more new fs)
-      ∙ new_is (versionsAt (whose new) fs) (version (latestNumber (versionsAt (whose new) fs) + 1) new) (versions-rise (whose new) (in-turn fs w)) (omega arith)
+      places_show_lem.given (whose new) (latest_number (versions_at (whose new) fs) + 1) after (with_added new fs) now
+      ∙ ap (numbered_in (latest_number (versions_at (whose new) fs) + 1)) (added_more new fs)
+      ∙ new_is (versions_at (whose new) fs) (version (latest_number (versions_at (whose new) fs) + 1) new) (versions_rise (whose new) (in_turn_lem fs w)) (omega arith)
 
-  added-older : (n : ℕ) → (n ≡ latestNumber (versionsAt (whose new) fs) + 1 → ⊥) → givenShown (whose new) n after ≡ givenShown (whose new) n file
+  added-older : (n : ℕ) → (n ≡ latest_number (versions_at (whose new) fs) + 1 → ⊥) → given_shown (whose new) n after ≡ given_shown (whose new) n file
   added-older n d =
-      places-show.given (whose new) n after (withAdded new fs) now
-      ∙ ap (numberedIn n) (added_more new fs)
-      ∙ others-are n (versionsAt (whose new) fs) (version (latestNumber (versionsAt (whose new) fs) + 1) new) d
-      ∙ sym (places-show.given (whose new) n file fs before)
+      places_show_lem.given (whose new) n after (with_added new fs) now
+      ∙ ap (numbered_in n) (added_more new fs)
+      ∙ others_are n (versions_at (whose new) fs) (version (latest_number (versions_at (whose new) fs) + 1) new) d
+      ∙ sym (places_show_lem.given (whose new) n file fs before)
 
-  was-added : Added file new after
-  was-added =
+  was_added : Added file new after
+  was_added =
       record {
         those = fs;
-        wasRead = before;
-        number = latestNumber (versionsAt (whose new) fs) + 1;
-        isNext = refl;
+        was_read = before;
+        number = latest_number (versions_at (whose new) fs) + 1;
+        is_next = refl;
         latest = added-latest;
         given = added-given;
         older = added-older;
-        overriding = λ main. places-show.overridden (whose new) after main (withAdded new fs) now (added-listed new fs) ∙ added-latest;
-        overridden = λ own os e m. places-show.main (whose new) own after os e m ∙ added-latest;
-        others = λ b d. stays file after fs (withAdded new fs) before now b (added-lists new fs b d) (added-others new fs b d);
+        overriding = λ main. places_show_lem.overridden (whose new) after main (with_added new fs) now (added-listed new fs) ∙ added-latest;
+        overridden = λ own os e m. places_show_lem.main (whose new) own after os e m ∙ added-latest;
+        others = λ b d. stays file after fs (with_added new fs) before now b (added-lists new fs b d) (added-others new fs b d);
       }
 
-pub what-was-added-is-the-latest : WhatWasAddedIsTheLatest
-what-was-added-is-the-latest area file new after b e =
-    let c : Becomes file after (withAdded new) = written-is-the-changed.addition area file new after b e in
-    was-added file new after c.those (accepted-is-well-formed file c.those b c.before) c.before c.now
+pub what_was_added_is_the_latest_lem : WhatWasAddedIsTheLatest
+what_was_added_is_the_latest_lem area file new after b e =
+    let c : Becomes file after (with_added new) = written_is_the_changed_lem.addition area file new after b e in
+    was_added file new after c.those (accepted_is_well_formed_lem file c.those b c.before) c.before c.now
 
 -- ---- a drop
 
-module _ (file : List ℕ) (a : ℕ) (after : List ℕ) (fs : List Field) (w : WellFormed fs) (before : read file ≡ catalogue fs) (now : read after ≡ catalogue (withoutVersion a fs)) where
-  less : versionsAt a (withoutVersion a fs) ≡ later (versionsAt a fs)
-  less = dropped-later a (in-turn fs w) w.apart
+module _ (file : List ℕ) (a : ℕ) (after : List ℕ) (fs : List Field) (w : WellFormed fs) (before : read file ≡ catalogue fs) (now : read after ≡ catalogue (without_version a fs)) where
+  less : versions_at a (without_version a fs) ≡ later (versions_at a fs)
+  less = dropped-later a (in_turn_lem fs w) w.apart
 
-  dropped-gone : givenShown a (oldestNumber (versionsAt a fs)) after ≡ none NoSuchCard
+  dropped-gone : given_shown a (oldest_number (versions_at a fs)) after ≡ none NoSuchCard
   dropped-gone =
-      places-show.given a (oldestNumber (versionsAt a fs)) after (withoutVersion a fs) now
-      ∙ ap (numberedIn (oldestNumber (versionsAt a fs))) less
-      ∙ oldest-gone (versionsAt a fs) (versions-rise a (in-turn fs w))
+      places_show_lem.given a (oldest_number (versions_at a fs)) after (without_version a fs) now
+      ∙ ap (numbered_in (oldest_number (versions_at a fs))) less
+      ∙ oldest-gone (versions_at a fs) (versions_rise a (in_turn_lem fs w))
 
-  dropped-rest : (n : ℕ) → (n ≡ oldestNumber (versionsAt a fs) → ⊥) → givenShown a n after ≡ givenShown a n file
+  dropped-rest : (n : ℕ) → (n ≡ oldest_number (versions_at a fs) → ⊥) → given_shown a n after ≡ given_shown a n file
   dropped-rest n d =
-      places-show.given a n after (withoutVersion a fs) now
-      ∙ ap (numberedIn n) less
-      ∙ rest-are n (versionsAt a fs) d
-      ∙ sym (places-show.given a n file fs before)
+      places_show_lem.given a n after (without_version a fs) now
+      ∙ ap (numbered_in n) less
+      ∙ rest_are n (versions_at a fs) d
+      ∙ sym (places_show_lem.given a n file fs before)
 
-  dropped-stays : leaves (versionsAt a fs) ≡ false → latestShown a after ≡ latestShown a file
+  dropped-stays : leaves (versions_at a fs) ≡ false → latest_shown a after ≡ latest_shown a file
   dropped-stays l =
-      places-show.latest a after (withoutVersion a fs) now
+      places_show_lem.latest a after (without_version a fs) now
       ∙ ap (last_of (none NoSuchCard)) less
-      ∙ last-stays (none NoSuchCard) (versionsAt a fs) l
-      ∙ sym (places-show.latest a file fs before)
+      ∙ last-stays (none NoSuchCard) (versions_at a fs) l
+      ∙ sym (places_show_lem.latest a file fs before)
 
-  dropped-none : leaves (versionsAt a fs) ≡ true → latestShown a after ≡ none NoSuchCard
+  dropped-none : leaves (versions_at a fs) ≡ true → latest_shown a after ≡ none NoSuchCard
   unfolding last_of
   dropped-none l =
-      places-show.latest a after (withoutVersion a fs) now
-      ∙ ap (last_of (none NoSuchCard)) (less ∙ none-later (versionsAt a fs) l)
+      places_show_lem.latest a after (without_version a fs) now
+      ∙ ap (last_of (none NoSuchCard)) (less ∙ none-later (versions_at a fs) l)
 
-  given-none : (n : ℕ) → leaves (versionsAt a fs) ≡ true → givenShown a n after ≡ none NoSuchCard
-  unfolding numberedIn
+  given-none : (n : ℕ) → leaves (versions_at a fs) ≡ true → given_shown a n after ≡ none NoSuchCard
+  unfolding numbered_in
   given-none n l =
-      places-show.given a n after (withoutVersion a fs) now
-      ∙ ap (numberedIn n) (less ∙ none-later (versionsAt a fs) l)
+      places_show_lem.given a n after (without_version a fs) now
+      ∙ ap (numbered_in n) (less ∙ none-later (versions_at a fs) l)
 
-  is-gone : leaves (versionsAt a fs) ≡ true → IsGone after a
-  is-gone l =
+  is_gone : leaves (versions_at a fs) ≡ true → IsGone after a
+  is_gone l =
       record {
         latest = dropped-none l;
         given = λ n. given-none n l;
-        overriding = λ main. places-show.main a after main (withoutVersion a fs) now (dropped-left a fs w.apart l);
-        overridden = λ own os e m. places-show.main a own after os e m ∙ dropped-none l;
+        overriding = λ main. places_show_lem.main a after main (without_version a fs) now (dropped-left a fs w.apart l);
+        overridden = λ own os e m. places_show_lem.main a own after os e m ∙ dropped-none l;
       }
 
-  was-dropped : Dropped file a after
-  was-dropped =
+  was_dropped : Dropped file a after
+  was_dropped =
       record {
         those = fs;
-        wasRead = before;
+        was_read = before;
         gone = dropped-gone;
         rest = dropped-rest;
-        stays = λ l. latest-stays file after fs (withoutVersion a fs) before now a (dropped-kept a fs l) (dropped-stays l);
-        left = is-gone;
-        others = λ b d. stays file after fs (withoutVersion a fs) before now b (dropped-lists a b fs d) (dropped-others a b d (in-turn fs w));
+        stays = λ l. latest-stays file after fs (without_version a fs) before now a (dropped-kept a fs l) (dropped-stays l);
+        left = is_gone;
+        others = λ b d. stays file after fs (without_version a fs) before now b (dropped-lists a b fs d) (dropped-others a b d (in_turn_lem fs w));
       }
 
-pub a-drop-takes-the-oldest : ADropTakesTheOldest
-a-drop-takes-the-oldest area file a after b e =
-    let c : Becomes file after (withoutVersion a) = written-is-the-changed.drop area file a after b e in
-    was-dropped file a after c.those (accepted-is-well-formed file c.those b c.before) c.before c.now
+pub a_drop_takes_the_oldest_lem : ADropTakesTheOldest
+a_drop_takes_the_oldest_lem area file a after b e =
+    let c : Becomes file after (without_version a) = written_is_the_changed_lem.drop area file a after b e in
+    was_dropped file a after c.those (accepted_is_well_formed_lem file c.those b c.before) c.before c.now

@@ -2,5 +2,5 @@
 -- Assumes nothing.
 use Rattle.std.specs.Prelude.{ℕ, Bool, ◌||◌, eqb, ltb}
 
-abbrev pub isMode : ℕ → Bool
-isMode n = ltb n 4096 || eqb n 65536
+abbrev pub is_mode : ℕ → Bool
+is_mode n = ltb n 4096 || eqb n 65536

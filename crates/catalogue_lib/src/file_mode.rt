@@ -1,6 +1,6 @@
 // The mode of an open file, for a new file that is to have the same.
 ghost use Rattle.std.specs.Prelude.{◌≡◌, true};
-ghost use Rattle.catalogue_lib.specs.Mode.{isMode};
+ghost use Rattle.catalogue_lib.specs.Mode.{is_mode};
 
 use libc::types::{stat, timespec};
 
@@ -9,14 +9,14 @@ pub const UNKNOWN: u32 = 65536;
 
 // The mode of an open file, its twelve lowest bits; UNKNOWN where the system does not tell.
 pub fn mode_of(fd: i32) -> u32
-    ensures { isMode result ≡ true }
+    ensures { is_mode result ≡ true }
 {
     told(fd, blank())
 }
 
 // The same, with a struct that the system fills.
 fn told(fd: i32, s: stat) -> u32
-    ensures { isMode result ≡ true }
+    ensures { is_mode result ≡ true }
 {
     let mut filled = s;
     let status = libc::fstat(fd, &mut filled);
@@ -25,7 +25,7 @@ fn told(fd: i32, s: stat) -> u32
 
 // The mode in the struct, where the system answered 0.
 fn mode_in(status: i32, s: stat) -> u32
-    ensures { isMode result ≡ true }
+    ensures { is_mode result ≡ true }
 {
     if status != 0 {
         return UNKNOWN;

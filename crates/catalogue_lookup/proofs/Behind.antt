@@ -7,45 +7,45 @@ use mathlib.Core.List.{List, [], ◌∷◌}
 use native.Mathlib.Omega.{arith}
 use lib.ListN.{drop}
 use Rattle.catalogue_rules.specs.Field.{Field, size_of, fields_of}
-use Rattle.catalogue_rules.specs.Reading.{addressesOf, isAmong}
-use Rattle.catalogue_rules.specs.Edit.{isCard}
-use Rattle.catalogue_rules.proofs.Seen.{among-is}
-use Rattle.catalogue_rules.specs.Lookup.{Spot, spotsFrom, spotsAt}
+use Rattle.catalogue_rules.specs.Reading.{addresses_of, is_among}
+use Rattle.catalogue_rules.specs.Edit.{is_card}
+use Rattle.catalogue_rules.proofs.Seen.{among_is}
+use Rattle.catalogue_rules.specs.Lookup.{Spot, spots_from, spots_at}
 use Rattle.catalogue_rules.specs.declared.Seek.{Seek}
 use Rattle.catalogue_rules.specs.declared.Seek.TheVariants.{Behind, Missing}
-use Rattle.catalogue_put.specs.Places.{cardPlace, seekIf}
-use Rattle.catalogue_put.proofs.Behind.{behindCard, behind-place}
+use Rattle.catalogue_put.specs.Places.{card_place, seek_if}
+use Rattle.catalogue_put.proofs.Behind.{behind_card, behind-place}
 
 -- The versions behind a card that was found.
-abbrev pub spotsBehind : List ℕ → Seek → List Spot
-spotsBehind file (Behind at) = spotsFrom at 0 (fields_of (drop at file))
-spotsBehind file Missing = []
+abbrev pub spots_behind : List ℕ → Seek → List Spot
+spots_behind file (Behind at) = spots_from at 0 (fields_of (drop at file))
+spots_behind file Missing = []
 
-found-if : (b among : Bool) (at size place : ℕ) (fs rest : List Field) (ss : List Spot) → cond among (spotsFrom (at + size + place) 0 rest) [] ≡ ss
-    → cond (b || among) (spotsFrom (at + cond b size (size + place)) 0 (cond b fs rest)) [] ≡ cond b (spotsFrom (at + size) 0 fs) ss
+found-if : (b among : Bool) (at size place : ℕ) (fs rest : List Field) (ss : List Spot) → cond among (spots_from (at + size + place) 0 rest) [] ≡ ss
+    → cond (b || among) (spots_from (at + cond b size (size + place)) 0 (cond b fs rest)) [] ≡ cond b (spots_from (at + size) 0 fs) ss
 found-if true among at size place fs rest ss e = refl
 found-if false among at size place fs rest ss e =
-    let n : at + (size + place) ≡ at + size + place = omega arith in ap (λ (k : ℕ). cond among (spotsFrom k 0 rest) []) n ∙ e
+    let n : at + (size + place) ≡ at + size + place = omega arith in ap (λ (k : ℕ). cond among (spots_from k 0 rest) []) n ∙ e
 
-found : (a at : ℕ) (fs : List Field) → cond (isAmong a (addressesOf fs)) (spotsFrom (at + cardPlace a fs) 0 (behindCard a fs)) [] ≡ spotsAt a at fs
-unfolding spotsAt cardPlace behindCard addressesOf
+found : (a at : ℕ) (fs : List Field) → cond (is_among a (addresses_of fs)) (spots_from (at + card_place a fs) 0 (behind_card a fs)) [] ≡ spots_at a at fs
+unfolding spots_at card_place behind_card addresses_of
 found a at [] = refl
 found a at (f ∷ fs) =
-    ap (λ (b : Bool). cond b (spotsFrom (at + cardPlace a (f ∷ fs)) 0 (behindCard a (f ∷ fs))) []) (among-is f fs a)
-    ∙ found-if (isCard a f) (isAmong a (addressesOf fs)) at (size_of f) (cardPlace a fs) fs (behindCard a fs) (spotsAt a (at + size_of f) fs) (found a (at + size_of f) fs)
+    ap (λ (b : Bool). cond b (spots_from (at + card_place a (f ∷ fs)) 0 (behind_card a (f ∷ fs))) []) (among_is f fs a)
+    ∙ found-if (is_card a f) (is_among a (addresses_of fs)) at (size_of f) (card_place a fs) fs (behind_card a fs) (spots_at a (at + size_of f) fs) (found a (at + size_of f) fs)
 
-behind-if : (b : Bool) (file : List ℕ) (place : ℕ) → spotsBehind file (seekIf b place) ≡ cond b (spotsFrom place 0 (fields_of (drop place file))) []
+behind-if : (b : Bool) (file : List ℕ) (place : ℕ) → spots_behind file (seek_if b place) ≡ cond b (spots_from place 0 (fields_of (drop place file))) []
 behind-if true file place = refl
 behind-if false file place = refl
 
-pub spots-behind : (a : ℕ) (file : List ℕ) {r : Seek} → r ≡ seekIf (isAmong a (addressesOf (fields_of file))) (cardPlace a (fields_of file))
-    → spotsBehind file r ≡ spotsAt a 0 (fields_of file)
-spots-behind a file e =
-    let place : ℕ = cardPlace a (fields_of file) in
-    let among : Bool = isAmong a (addressesOf (fields_of file)) in
+pub spots_behind_lem : (a : ℕ) (file : List ℕ) {r : Seek} → r ≡ seek_if (is_among a (addresses_of (fields_of file))) (card_place a (fields_of file))
+    → spots_behind file r ≡ spots_at a 0 (fields_of file)
+spots_behind_lem a file e =
+    let place : ℕ = card_place a (fields_of file) in
+    let among : Bool = is_among a (addresses_of (fields_of file)) in
     let z : place ≡ 0 + place = omega arith in
-    ap (spotsBehind file) e
+    ap (spots_behind file) e
     ∙ behind-if among file place
-    ∙ ap (λ (fs : List Field). cond among (spotsFrom place 0 fs) []) (behind-place a file)
-    ∙ ap (λ (k : ℕ). cond among (spotsFrom k 0 (behindCard a (fields_of file))) []) z
+    ∙ ap (λ (fs : List Field). cond among (spots_from place 0 fs) []) (behind-place a file)
+    ∙ ap (λ (k : ℕ). cond among (spots_from k 0 (behind_card a (fields_of file))) []) z
     ∙ found a 0 (fields_of file)

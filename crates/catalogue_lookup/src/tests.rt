@@ -1,14 +1,14 @@
 // The file's own refusals 18 and 19, which come behind 17.
 ghost use Rattle.std.specs.Prelude.{◌≡◌};
-ghost use Rattle.catalogue_rules.specs.Lookup.{inOverride};
-ghost use Rattle.catalogue_rules.specs.LookupWalk.{foundIn, mainIn};
+ghost use Rattle.catalogue_rules.specs.Lookup.{in_override};
+ghost use Rattle.catalogue_rules.specs.LookupWalk.{found_in, main_in};
 
 use catalogue_rules::{Hit, Place};
 use refusal::Refusal;
 
 // A place in a file that has so many cards, unless it has more than 64 or lists one twice.
 pub fn found_in(file: &[u8], cards: usize, found: Place) -> Place
-    ensures { result ≡ foundIn cards file.now found }
+    ensures { result ≡ found_in cards file.now found }
 {
     match found {
         Place::Refused(why) => Place::Refused(why),
@@ -25,7 +25,7 @@ pub fn found_in(file: &[u8], cards: usize, found: Place) -> Place
 }
 
 pub fn in_override(found: Place) -> Hit
-    ensures { result ≡ inOverride found }
+    ensures { result ≡ in_override found }
 {
     match found {
         Place::At { start, len } => Hit::InOverride { start, len },
@@ -35,7 +35,7 @@ pub fn in_override(found: Place) -> Hit
 
 // A place in the main file, beside an override that lacks the card; neither may have more than 64 cards or list one twice.
 pub fn in_main(own: &[u8], cards: usize, main: &[u8], others: usize, found: Place) -> Hit
-    ensures { result ≡ mainIn cards others own.now main.now found }
+    ensures { result ≡ main_in cards others own.now main.now found }
 {
     match found {
         Place::Refused(why) => Hit::Nowhere(why),

@@ -2,7 +2,7 @@
 ghost use Rattle.std.specs.Prelude.{◌≡◌, cond, take, drop, eqb};
 ghost use Rattle.refusal.specs.declared.Refusal.TheVariants.{NoSuchCard};
 ghost use Rattle.catalogue_rules.specs.Field.{fields_of, number_at};
-ghost use Rattle.catalogue_rules.specs.Lookup.{spotsFrom, spotsAt, lastSpot, numberedSpot};
+ghost use Rattle.catalogue_rules.specs.Lookup.{spots_from, spots_at, last_spot, numbered_spot};
 ghost use Rattle.catalogue_rules.specs.declared.Place.TheVariants.{At, Refused};
 
 use catalogue_rules::{Found, Place, Seek};
@@ -20,7 +20,7 @@ fn newer(best: Place, tag: u8, start: usize, len: usize) -> Place
 
 // The newest image from a place up to the next card.
 pub fn newest(file: &[u8], from: usize) -> Place
-    ensures { result ≡ lastSpot (Refused NoSuchCard) (spotsFrom from 0 (fields_of (drop from file.now))) }
+    ensures { result ≡ last_spot (Refused NoSuchCard) (spots_from from 0 (fields_of (drop from file.now))) }
 {
     let mut best = Place::Refused(Refusal::NoSuchCard);
     let mut at = from;
@@ -42,7 +42,7 @@ pub fn newest(file: &[u8], from: usize) -> Place
 
 // The newest image of a card.
 pub fn newest_at(file: &[u8], address: u64) -> Place
-    ensures { result ≡ lastSpot (Refused NoSuchCard) (spotsAt address 0 (fields_of file.now)) }
+    ensures { result ≡ last_spot (Refused NoSuchCard) (spots_at address 0 (fields_of file.now)) }
 {
     match catalogue_put::card_place(file, address) {
         Seek::Missing => Place::Refused(Refusal::NoSuchCard),
@@ -62,7 +62,7 @@ fn due(number: u16, file: &[u8], tag: u8, start: usize, len: usize) -> u16
 
 // The image with a number, from a place up to the next card.
 fn numbered(file: &[u8], from: usize, number: u16) -> Place
-    ensures { result ≡ numberedSpot number (spotsFrom from 0 (fields_of (drop from file.now))) }
+    ensures { result ≡ numbered_spot number (spots_from from 0 (fields_of (drop from file.now))) }
 {
     let mut told: u16 = 0;
     let mut at = from;
@@ -87,7 +87,7 @@ fn numbered(file: &[u8], from: usize, number: u16) -> Place
 
 // The image of a card with a number.
 pub fn numbered_at(file: &[u8], address: u64, number: u16) -> Place
-    ensures { result ≡ numberedSpot number (spotsAt address 0 (fields_of file.now)) }
+    ensures { result ≡ numbered_spot number (spots_at address 0 (fields_of file.now)) }
 {
     match catalogue_put::card_place(file, address) {
         Seek::Missing => Place::Refused(Refusal::NoSuchCard),

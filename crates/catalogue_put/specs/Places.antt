@@ -4,24 +4,24 @@ use Rattle.std.specs.Prelude.{ℕ, ◌+◌, Bool, true, false, cond, ◌||◌, L
 use Rattle.catalogue_rules.specs.Field.{Field, size_of}
 use Rattle.catalogue_rules.specs.declared.Seek.{Seek}
 use Rattle.catalogue_rules.specs.declared.Seek.TheVariants.{Behind, Missing}
-use Rattle.catalogue_rules.specs.Edit.{isCard}
+use Rattle.catalogue_rules.specs.Edit.{is_card}
 
 -- Up to behind the address of a card.
-unfoldable pub cardPlace : ℕ → List Field → ℕ
-cardPlace a [] = 0
-cardPlace a (f ∷ fs) = cond (isCard a f) (size_of f) (size_of f + cardPlace a fs)
+unfoldable pub card_place : ℕ → List Field → ℕ
+card_place a [] = 0
+card_place a (f ∷ fs) = cond (is_card a f) (size_of f) (size_of f + card_place a fs)
 
 -- Up to the next card, or to the count.
-unfoldable pub cardEnd : List Field → ℕ
-cardEnd [] = 0
-cardEnd (f ∷ fs) = cond (eqb f.tag 1 || eqb f.tag 4) 0 (size_of f + cardEnd fs)
+unfoldable pub card_end : List Field → ℕ
+card_end [] = 0
+card_end (f ∷ fs) = cond (eqb f.tag 1 || eqb f.tag 4) 0 (size_of f + card_end fs)
 
 -- Up to the first field with a tag.
-unfoldable pub fieldPlace : ℕ → List Field → ℕ
-fieldPlace t [] = 0
-fieldPlace t (f ∷ fs) = cond (eqb f.tag t) 0 (size_of f + fieldPlace t fs)
+unfoldable pub field_place : ℕ → List Field → ℕ
+field_place t [] = 0
+field_place t (f ∷ fs) = cond (eqb f.tag t) 0 (size_of f + field_place t fs)
 
 -- Where a card's fields begin, if it is there.
-abbrev pub seekIf : Bool → ℕ → Seek
-seekIf true place = Behind place
-seekIf false place = Missing
+abbrev pub seek_if : Bool → ℕ → Seek
+seek_if true place = Behind place
+seek_if false place = Missing

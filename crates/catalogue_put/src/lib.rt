@@ -1,9 +1,9 @@
 // Writing fields into a lent area.
 ghost use Rattle.std.specs.Prelude.{◌≡◌, List, [], ◌∷◌, ◌+◌, ◌<◌, ◌≤◌, length};
 ghost use Rattle.catalogue_rules.specs.Field.{field, bytes_of};
-ghost use Rattle.catalogue_rules.specs.Reading.{countField};
-ghost use Rattle.catalogue_rules.specs.Archive.{addressIn};
-ghost use Rattle.catalogue_rules.specs.Edit.{versionFields};
+ghost use Rattle.catalogue_rules.specs.Reading.{count_field};
+ghost use Rattle.catalogue_rules.specs.Archive.{address_in};
+ghost use Rattle.catalogue_rules.specs.Edit.{version_fields};
 ghost use Rattle.catalogue_rules.specs.Put.{put_at};
 
 use refusal::Refusal;
@@ -28,7 +28,7 @@ pub fn bytes(out: &mut [u8], at: usize, src: &[u8]) -> usize
 // The two fields of a version.
 pub fn version(out: &mut [u8], at: usize, number: u16, image: &[u8]) -> usize
     requires { (length image.now ≡ 128) × (at + 136 ≤ length out.old) }
-    ensures { (result ≡ at + 136) × (out.new ≡ put_at out.old at (bytes_of (versionFields number image.now))) }
+    ensures { (result ≡ at + 136) × (out.new ≡ put_at out.old at (bytes_of (version_fields number image.now))) }
 {
     let low = (number % 256) as u8;
     let high = (number / 256) as u8;
@@ -40,7 +40,7 @@ pub fn version(out: &mut [u8], at: usize, number: u16, image: &[u8]) -> usize
 // The three fields of a card with one version.
 pub fn card(out: &mut [u8], at: usize, image: &[u8]) -> usize
     requires { (length image.now ≡ 128) × (at + 145 ≤ length out.old) }
-    ensures { (result ≡ at + 145) × (out.new ≡ put_at out.old at (bytes_of (field 1 (addressIn image.now) ∷ versionFields 1 image.now))) }
+    ensures { (result ≡ at + 145) × (out.new ≡ put_at out.old at (bytes_of (field 1 (address_in image.now) ∷ version_fields 1 image.now))) }
 {
     let head = [
         1, 6, 0, image[1], image[0], image[3], image[2], image[5], image[4],
@@ -52,7 +52,7 @@ pub fn card(out: &mut [u8], at: usize, image: &[u8]) -> usize
 // The count of fields.
 pub fn count(out: &mut [u8], at: usize, n: usize) -> usize
     requires { (n < 65536) × (at + 5 ≤ length out.old) }
-    ensures { (result ≡ at + 5) × (out.new ≡ put_at out.old at (bytes_of (countField n ∷ []))) }
+    ensures { (result ≡ at + 5) × (out.new ≡ put_at out.old at (bytes_of (count_field n ∷ []))) }
 {
     let low = (n % 256) as u8;
     let high = (n / 256) as u8;

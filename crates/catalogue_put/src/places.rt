@@ -1,17 +1,17 @@
 // Where the fields of a card stand in a catalogue's file, and how many versions it has.
 ghost use Rattle.std.specs.Prelude.{◌≡◌, cond, ◌+◌, length, drop};
 ghost use Rattle.catalogue_rules.specs.Field.{fields_of};
-ghost use Rattle.catalogue_rules.specs.Reading.{addressesOf, isAmong};
-ghost use Rattle.catalogue_rules.specs.FileWalk.{oneIf};
-ghost use Rattle.catalogue_rules.specs.Cards.{versionsFrom};
-ghost use Rattle.catalogue_rules.specs.Edit.{latestNumber};
-ghost use Rattle.catalogue_put.specs.Places.{cardPlace, cardEnd, fieldPlace, seekIf};
+ghost use Rattle.catalogue_rules.specs.Reading.{addresses_of, is_among};
+ghost use Rattle.catalogue_rules.specs.FileWalk.{one_if};
+ghost use Rattle.catalogue_rules.specs.Cards.{versions_from};
+ghost use Rattle.catalogue_rules.specs.Edit.{latest_number};
+ghost use Rattle.catalogue_put.specs.Places.{card_place, card_end, field_place, seek_if};
 
 use catalogue_rules::{Found, Seek};
 
 // Behind the address of a card.
 pub fn card_place(file: &[u8], address: u64) -> Seek
-    ensures { result ≡ seekIf (isAmong address (addressesOf (fields_of file.now))) (cardPlace address (fields_of file.now)) }
+    ensures { result ≡ seek_if (is_among address (addresses_of (fields_of file.now))) (card_place address (fields_of file.now)) }
 {
     let mut at = 0;
     loop {
@@ -32,7 +32,7 @@ pub fn card_place(file: &[u8], address: u64) -> Seek
 
 // The end of a card's fields: the next card, or the count.
 pub fn card_end(file: &[u8], from: usize) -> usize
-    ensures { result ≡ from + cardEnd (fields_of (drop from file.now)) }
+    ensures { result ≡ from + card_end (fields_of (drop from file.now)) }
 {
     let mut at = from;
     loop {
@@ -52,7 +52,7 @@ pub fn card_end(file: &[u8], from: usize) -> usize
 
 // The first field with a tag, from a place on.
 pub fn field_place(file: &[u8], from: usize, wanted: u8) -> usize
-    ensures { result ≡ from + fieldPlace wanted (fields_of (drop from file.now)) }
+    ensures { result ≡ from + field_place wanted (fields_of (drop from file.now)) }
 {
     let mut at = from;
     loop {
@@ -71,7 +71,7 @@ pub fn field_place(file: &[u8], from: usize, wanted: u8) -> usize
 }
 
 fn one_if(image: bool) -> usize
-    ensures { result ≡ oneIf image }
+    ensures { result ≡ one_if image }
 {
     if image {
         return 1;
@@ -81,7 +81,7 @@ fn one_if(image: bool) -> usize
 
 // How many versions stand between a place and the next card.
 pub fn versions(file: &[u8], from: usize) -> usize
-    ensures { result ≡ length (versionsFrom 0 (fields_of (drop from file.now))) }
+    ensures { result ≡ length (versions_from 0 (fields_of (drop from file.now))) }
 {
     let mut at = from;
     let mut n: usize = 0;
@@ -112,7 +112,7 @@ fn either(first: bool, one: u16, other: u16) -> u16
 
 // The number of the latest of them; 0 where there is none.
 pub fn last_number(file: &[u8], from: usize) -> u16
-    ensures { result ≡ latestNumber (versionsFrom 0 (fields_of (drop from file.now))) }
+    ensures { result ≡ latest_number (versions_from 0 (fields_of (drop from file.now))) }
 {
     let mut at = from;
     let mut told: u16 = 0;

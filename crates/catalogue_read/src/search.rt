@@ -2,7 +2,7 @@
 ghost use Rattle.std.specs.Prelude.{◌≡◌, ◌&&◌, ◌+◌, ◌*◌, ◌<◌, take, drop, eqb};
 ghost use Rattle.catalogue_rules.specs.Field.{fields_of};
 ghost use Rattle.catalogue_rules.specs.Turns.{address_of};
-ghost use Rattle.catalogue_rules.specs.Reading.{addressesOf, isAmong, anyTwice};
+ghost use Rattle.catalogue_rules.specs.Reading.{addresses_of, is_among, any_twice};
 
 use crate::fields;
 use catalogue_rules::Found;
@@ -36,7 +36,7 @@ pub fn is_address(file: &[u8], tag: u8, start: usize, len: usize, address: u64) 
 
 // Whether a card is listed from a place on.
 pub fn listed(file: &[u8], from: usize, address: u64) -> bool
-    ensures { result ≡ isAmong address (addressesOf (fields_of (drop from file.now))) }
+    ensures { result ≡ is_among address (addresses_of (fields_of (drop from file.now))) }
 {
     let mut at = from;
     loop {
@@ -56,7 +56,7 @@ pub fn listed(file: &[u8], from: usize, address: u64) -> bool
 
 // Whether a field is an address that is listed again behind it.
 fn comes_again(file: &[u8], tag: u8, start: usize, len: usize, next: usize) -> bool
-    ensures { result ≡ (eqb tag 1 && isAmong (address_of (take len (drop start file.now))) (addressesOf (fields_of (drop next file.now)))) }
+    ensures { result ≡ (eqb tag 1 && is_among (address_of (take len (drop start file.now))) (addresses_of (fields_of (drop next file.now)))) }
 {
     if tag == 1 {
         return listed(file, next, address_at(file, start, len));
@@ -66,7 +66,7 @@ fn comes_again(file: &[u8], tag: u8, start: usize, len: usize, next: usize) -> b
 
 // Whether an address is listed twice.
 pub fn twice(file: &[u8]) -> bool
-    ensures { result ≡ anyTwice (addressesOf (fields_of file.now)) }
+    ensures { result ≡ any_twice (addresses_of (fields_of file.now)) }
 {
     let mut at = 0;
     loop {

@@ -1,9 +1,9 @@
 // The fields of a file, taken in turn.
 ghost use Rattle.std.specs.Prelude.{◌≡◌, cond, ◌&&◌, ◌+◌, ◌≤◌, length, take, drop, eqb, ltb};
 ghost use Rattle.catalogue_rules.specs.Field.{field, fields_of, left_of};
-ghost use Rattle.catalogue_rules.specs.Turns.{afterAddress, afterNumber, afterImage, after, mayEnd, isDamaged};
+ghost use Rattle.catalogue_rules.specs.Turns.{after_address, after_number, after_image, after, may_end, is_damaged};
 ghost use Rattle.catalogue_rules.specs.Reading.{reading, judged};
-ghost use Rattle.catalogue_rules.specs.FileWalk.{rising, closes, oneIf};
+ghost use Rattle.catalogue_rules.specs.FileWalk.{rising, closes, one_if};
 ghost use Rattle.catalogue_rules.specs.declared.Turn.TheVariants.{Begun};
 
 use crate::fields;
@@ -11,7 +11,7 @@ use catalogue_rules::{Found, Judged, Turn};
 use refusal::Refusal;
 
 fn after_address(turn: Turn) -> Turn
-    ensures { result ≡ afterAddress turn }
+    ensures { result ≡ after_address turn }
 {
     match turn {
         Turn::Begun => Turn::Addressed,
@@ -39,7 +39,7 @@ fn rises(nth: usize, last: u16, number: u16) -> Turn
 }
 
 fn after_number(turn: Turn, number: u16) -> Turn
-    ensures { result ≡ afterNumber turn number }
+    ensures { result ≡ after_number turn number }
 {
     match turn {
         Turn::Begun => Turn::Damaged,
@@ -51,7 +51,7 @@ fn after_number(turn: Turn, number: u16) -> Turn
 }
 
 fn after_image(turn: Turn) -> Turn
-    ensures { result ≡ afterImage turn }
+    ensures { result ≡ after_image turn }
 {
     match turn {
         Turn::Begun => Turn::Damaged,
@@ -89,7 +89,7 @@ fn next_turn(turn: Turn, file: &[u8], tag: u8, start: usize, len: usize) -> Turn
 }
 
 fn may_end(turn: Turn) -> bool
-    ensures { result ≡ mayEnd turn }
+    ensures { result ≡ may_end turn }
 {
     match turn {
         Turn::Begun => true,
@@ -101,7 +101,7 @@ fn may_end(turn: Turn) -> bool
 }
 
 fn is_damaged(turn: Turn) -> bool
-    ensures { result ≡ isDamaged turn }
+    ensures { result ≡ is_damaged turn }
 {
     match turn {
         Turn::Begun => false,
@@ -133,7 +133,7 @@ fn closing(turn: Turn, n: usize, cards: usize, file: &[u8], start: usize, len: u
 }
 
 fn one_if(card: bool) -> usize
-    ensures { (result ≡ oneIf card) × (result ≤ 1) }
+    ensures { (result ≡ one_if card) × (result ≤ 1) }
 {
     if card {
         return 1;

@@ -11,78 +11,78 @@ use Rattle.refusal.specs.declared.Refusal.{Refusal}
 use Rattle.refusal.specs.declared.Refusal.TheVariants.{MakerWrong, ChecksumWrong, SecondaryWrong}
 use Rattle.image_rules.specs.declared.Checked as checked
 use Rattle.image_rules.specs.declared.Checked.{Checked}
-use Rattle.image_rules.specs.Image.{checkOf}
-use Rattle.catalogue_rules.specs.Reading.{catalogue, read, fileOf, anyTwice}
-use Rattle.catalogue_rules.specs.Archive.{row_of, movedIn, movedOut, isSound, AllSound, addressesIn, BackAsItCame}
-use Rattle.catalogue_rules.proofs.OutAfter.{out-after-in}
-use Rattle.catalogue_rules.specs.Edit.{Change, bytes, imagesWithin, imagesIn, isFor, anyFor, imported, exported}
-use Rattle.catalogue_rules.specs.Put.{answer_of, areaAfter}
-use Rattle.catalogue_row.specs.Back.{outAgain, ComesBack, RowComesBack}
+use Rattle.image_rules.specs.Image.{check_of}
+use Rattle.catalogue_rules.specs.Reading.{catalogue, read, file_of, any_twice}
+use Rattle.catalogue_rules.specs.Archive.{row_of, moved_in, moved_out, is_sound, AllSound, addresses_in, BackAsItCame}
+use Rattle.catalogue_rules.proofs.OutAfter.{out_after_in_lem}
+use Rattle.catalogue_rules.specs.Edit.{Change, bytes, images_within, images_in, is_for, any_for, imported, exported}
+use Rattle.catalogue_rules.specs.Put.{answer_of, area_after}
+use Rattle.catalogue_row.specs.Back.{out_again, ComesBack, RowComesBack}
 use Rattle.catalogue_row.proofs.Ways.{sound}
-use Rattle.catalogue_row.proofs.Fitting.{exported-fields}
+use Rattle.catalogue_row.proofs.Fitting.{exported_fields}
 
 -- An archive is the row of its images.
-row_within : (n : ℕ) (row : List ℕ) → length row ≡ 128 * n → row_of (imagesWithin n row) ≡ row
-unfolding imagesWithin row_of
+row_within : (n : ℕ) (row : List ℕ) → length row ≡ 128 * n → row_of (images_within n row) ≡ row
+unfolding images_within row_of
 row_within zero [] e = refl
 row_within zero (x ∷ row) e = absurd (omega arith)
 row_within (suc n) row e =
     ap (λ (l : List ℕ). take 128 row ++ l) (row_within n (drop 128 row) (simp length-drop (omega arith)))
     ∙ take-append-drop 128 row
 
-count-within : (n : ℕ) (row : List ℕ) → length (imagesWithin n row) ≡ n
-unfolding imagesWithin
+count-within : (n : ℕ) (row : List ℕ) → length (images_within n row) ≡ n
+unfolding images_within
 count-within zero row = refl
 count-within (suc n) row = ap suc (count-within n (drop 128 row))
 
 -- All sound: none is refused for any reason.
-not-for : (why : Refusal) (k : Checked) (rest : Bool) → isSound k ≡ true → rest ≡ false → isFor why k || rest ≡ false
-not-for why (checked.TheVariants.Sound n0 n1 n2) rest e h = h
-not-for why (checked.TheVariants.Refused other) rest e h = absurd (false≢true e)
+not_for : (why : Refusal) (k : Checked) (rest : Bool) → is_sound k ≡ true → rest ≡ false → is_for why k || rest ≡ false
+not_for why (checked.TheVariants.Sound n0 n1 n2) rest e h = h
+not_for why (checked.TheVariants.Refused other) rest e h = absurd (false≢true e)
 
-none-for : (why : Refusal) (images : List (List ℕ)) → AllSound images → anyFor why images ≡ false
-unfolding AllSound anyFor
-none-for why [] s = refl
-none-for why (image ∷ images) s = not-for why (checkOf image) (anyFor why images) s.0 (none-for why images s.1)
+none_for : (why : Refusal) (images : List (List ℕ)) → AllSound images → any_for why images ≡ false
+unfolding AllSound any_for
+none_for why [] s = refl
+none_for why (image ∷ images) s = not_for why (check_of image) (any_for why images) s.0 (none_for why images s.1)
 
-module _ (row area out : List ℕ) (even : length row % 128 ≡ 0) (few : length row / 128 ≤ 64) (all : AllSound (imagesIn row)) (apart : anyTwice (addressesIn (imagesIn row)) ≡ false)
+module _ (row area out : List ℕ) (even : length row % 128 ≡ 0) (few : length row / 128 ≤ 64) (all : AllSound (images_in row)) (apart : any_twice (addresses_in (images_in row)) ≡ false)
     (fits : 145 * (length row / 128) + 5 ≤ length area) (room : 8192 ≤ length out) where
   file : List ℕ
-  file = fileOf (movedIn (imagesIn row))
+  file = file_of (moved_in (images_in row))
 
   goes_in : imported (length area) row ≡ bytes file
-  unfolding imagesIn file
+  unfolding images_in file
   goes_in =
-      sound area row fits even few false (sym apart) refl false (sym (none-for MakerWrong (imagesIn row) all)) refl false (sym (none-for ChecksumWrong (imagesIn row) all)) refl false
-      (sym (none-for SecondaryWrong (imagesIn row) all)) refl
+      sound area row fits even few false (sym apart) refl false (sym (none_for MakerWrong (images_in row) all)) refl false (sym (none_for ChecksumWrong (images_in row) all)) refl false
+      (sym (none_for SecondaryWrong (images_in row) all)) refl
 
-  back : BackAsItCame (imagesIn row)
-  unfolding imagesIn
-  back = let n : length (imagesWithin (length row / 128) row) ≡ length row / 128 = count-within (length row / 128) row in out-after-in (imagesIn row) (omega arith) all apart
+  back : BackAsItCame (images_in row)
+  unfolding images_in
+  back = let n : length (images_within (length row / 128) row) ≡ length row / 128 = count-within (length row / 128) row in out_after_in_lem (images_in row) (omega arith) all apart
 
-  is_read : read file ≡ catalogue (movedIn (imagesIn row))
+  is_read : read file ≡ catalogue (moved_in (images_in row))
   unfolding file
   is_read = back.accepted
 
-  is_row : movedOut (movedIn (imagesIn row)) ≡ row
-  unfolding imagesIn
+  is_row : moved_out (moved_in (images_in row)) ≡ row
+  unfolding images_in
   is_row = back.same ∙ row_within (length row / 128) row (omega arith)
 
-  comes-out : outAgain row area out (length file) ≡ bytes row
-  comes-out =
-      ap (λ (c : Change). exported (length out) (take (length file) (areaAfter c area))) goes_in
+  comes_out : out_again row area out (length file) ≡ bytes row
+  comes_out =
+      ap (λ (c : Change). exported (length out) (take (length file) (area_after c area))) goes_in
       ∙ ap (exported (length out)) (take_at file (drop (length file) area) (length file) refl)
-      ∙ exported-fields (length out) room file (movedIn (imagesIn row)) is_read
+      ∙ exported_fields (length out) room file (moved_in (images_in row)) is_read
       ∙ ap bytes is_row
 
   returned : ComesBack row area out
   returned =
       record {
         n = length file;
-        movedIn = ap answer_of goes_in;
-        writtenOut = ap answer_of comes-out;
-        same = ap (λ (c : Change). take (length row) (areaAfter c out)) comes-out ∙ take_at row (drop (length row) out) (length row) refl;
+        moved_in = ap answer_of goes_in;
+        written_out = ap answer_of comes_out;
+        same = ap (λ (c : Change). take (length row) (area_after c out)) comes_out ∙ take_at row (drop (length row) out) (length row) refl;
       }
 
-pub row-comes-back : RowComesBack
-row-comes-back row area out even few all apart fits room = returned row area out even few all apart fits room
+pub row_comes_back_lem : RowComesBack
+row_comes_back_lem row area out even few all apart fits room = returned row area out even few all apart fits room

@@ -1,16 +1,16 @@
 // The images of an archive, looked at before anything is written.
 ghost use Rattle.std.specs.Prelude.{◌≡◌, ◌+◌, ◌*◌, ◌≤◌, length, take, drop};
 ghost use Rattle.catalogue_rules.specs.Turns.{address_of};
-ghost use Rattle.catalogue_rules.specs.Reading.{isAmong, anyTwice};
-ghost use Rattle.catalogue_rules.specs.Archive.{addressIn, addressesIn};
-ghost use Rattle.catalogue_rules.specs.Edit.{imagesWithin, isFor, anyFor};
+ghost use Rattle.catalogue_rules.specs.Reading.{is_among, any_twice};
+ghost use Rattle.catalogue_rules.specs.Archive.{address_in, addresses_in};
+ghost use Rattle.catalogue_rules.specs.Edit.{images_within, is_for, any_for};
 
 use image_rules::Checked;
 use refusal::Refusal;
 
 // The node address of the image at a place.
 fn address_in(archive: &[u8], at: usize) -> u64
-    ensures { result ≡ address_of (addressIn (take 128 (drop at archive.now))) }
+    ensures { result ≡ address_of (address_in (take 128 (drop at archive.now))) }
 {
     let node = [
         catalogue_read::value_byte(archive, at, 128, 1),
@@ -26,7 +26,7 @@ fn address_in(archive: &[u8], at: usize) -> u64
 // Whether one of so many images from a place on has the address.
 fn listed(archive: &[u8], from: usize, images: usize, address: u64) -> bool
     requires { from + 128 * images ≤ length archive.now }
-    ensures { result ≡ isAmong address (addressesIn (imagesWithin images (drop from archive.now))) }
+    ensures { result ≡ is_among address (addresses_in (images_within images (drop from archive.now))) }
 {
     let mut at = from;
     let mut unseen = images;
@@ -43,7 +43,7 @@ fn listed(archive: &[u8], from: usize, images: usize, address: u64) -> bool
 // Whether two images have one address.
 pub fn any_twice(archive: &[u8], images: usize) -> bool
     requires { 128 * images ≤ length archive.now }
-    ensures { result ≡ anyTwice (addressesIn (imagesWithin images archive.now)) }
+    ensures { result ≡ any_twice (addresses_in (images_within images archive.now)) }
 {
     let mut at = 0;
     let mut left = images;
@@ -61,7 +61,7 @@ pub fn any_twice(archive: &[u8], images: usize) -> bool
 
 // Whether an image was refused for this reason.
 fn is_for(found: Checked, why: Refusal) -> bool
-    ensures { result ≡ isFor why found }
+    ensures { result ≡ is_for why found }
 {
     match found {
         Checked::Refused(other) => refusal::number(other) == refusal::number(why),
@@ -76,7 +76,7 @@ fn is_for(found: Checked, why: Refusal) -> bool
 // Whether one of the images is refused for this reason.
 pub fn any_for(archive: &[u8], images: usize, why: Refusal) -> bool
     requires { 128 * images ≤ length archive.now }
-    ensures { result ≡ anyFor why (imagesWithin images archive.now) }
+    ensures { result ≡ any_for why (images_within images archive.now) }
 {
     let mut at = 0;
     let mut untested = images;

@@ -9,7 +9,7 @@ use borrow.Author.Tests.{ltb-true, ltb-false}
 use lib.Dec.{ltb}
 use lib.ListN.{length, get_or, take, drop, length-take, length-drop, take-append-drop, get_or-eq_default}
 use lib.Seq.{drop-cons, drop-drop, get_or-drop, get_or-take}
-use Rattle.catalogue_rules.specs.Field.{Field, field, written, bytes_of, number_at, is_whole, first, behind, fieldsWithin, fields_of, leftWithin, left_of}
+use Rattle.catalogue_rules.specs.Field.{Field, field, written, bytes_of, number_at, is_whole, first, behind, fields_within, fields_of, left_within, left_of}
 use Rattle.catalogue_rules.proofs.Runs.{whole-fits}
 use Rattle.catalogue_rules.specs.RoundTrip.{Bytes}
 
@@ -42,8 +42,8 @@ module _ (bytes : List ℕ) (b : Bytes bytes) (w : is_whole bytes ≡ true) wher
       ap (λ (l : List ℕ). take (number_at bytes 1) (drop 3 bytes) ++ l) (sym (drop-drop (number_at bytes 1) 3 bytes))
       ∙ take-append-drop (number_at bytes 1) (drop 3 bytes)
 
-  one-back : written (first bytes) ++ behind bytes ≡ bytes
-  one-back =
+  one_back : written (first bytes) ++ behind bytes ≡ bytes
+  one_back =
       let low : get_or bytes 1 0 < 256 = b 1 in
       let high : get_or bytes 2 0 < 256 = b 2 in
       let e : length (take (number_at bytes 1) (drop 3 bytes)) ≡ number_at bytes 1 = size in
@@ -53,20 +53,20 @@ module _ (bytes : List ℕ) (b : Bytes bytes) (w : is_whole bytes ≡ true) wher
       ∙ ap (λ (t : List ℕ). get_or bytes 0 0 ∷ get_or bytes 1 0 ∷ get_or bytes 2 0 ∷ t) value
       ∙ sym head
 
-back-if : (t : Bool) (n : ℕ) (bytes : List ℕ) → Bytes bytes → is_whole bytes ≡ t
-    → (is_whole bytes ≡ true → bytes_of (fieldsWithin n (behind bytes)) ++ leftWithin n (behind bytes) ≡ behind bytes)
-    → bytes_of (cond t (first bytes ∷ fieldsWithin n (behind bytes)) []) ++ cond t (leftWithin n (behind bytes)) bytes ≡ bytes
+back_if : (t : Bool) (n : ℕ) (bytes : List ℕ) → Bytes bytes → is_whole bytes ≡ t
+    → (is_whole bytes ≡ true → bytes_of (fields_within n (behind bytes)) ++ left_within n (behind bytes) ≡ behind bytes)
+    → bytes_of (cond t (first bytes ∷ fields_within n (behind bytes)) []) ++ cond t (left_within n (behind bytes)) bytes ≡ bytes
 unfolding bytes_of
-back-if false n bytes b w ih = refl
-back-if true n bytes b w ih =
-    append_assoc (written (first bytes)) (bytes_of (fieldsWithin n (behind bytes))) (leftWithin n (behind bytes))
+back_if false n bytes b w ih = refl
+back_if true n bytes b w ih =
+    append_assoc (written (first bytes)) (bytes_of (fields_within n (behind bytes))) (left_within n (behind bytes))
     ∙ ap (λ (l : List ℕ). written (first bytes) ++ l) (ih w)
-    ∙ one-back bytes b w
+    ∙ one_back bytes b w
 
-back : (n : ℕ) (bytes : List ℕ) → Bytes bytes → bytes_of (fieldsWithin n bytes) ++ leftWithin n bytes ≡ bytes
-unfolding fieldsWithin leftWithin bytes_of
+back : (n : ℕ) (bytes : List ℕ) → Bytes bytes → bytes_of (fields_within n bytes) ++ left_within n bytes ≡ bytes
+unfolding fields_within left_within bytes_of
 back zero bytes b = refl
-back (suc n) bytes b = back-if (is_whole bytes) n bytes b refl (λ w. back n (behind bytes) (bytes_drop (3 + number_at bytes 1) bytes b))
+back (suc n) bytes b = back_if (is_whole bytes) n bytes b refl (λ w. back n (behind bytes) (bytes_drop (3 + number_at bytes 1) bytes b))
 
 pub written_back : (file : List ℕ) → Bytes file → bytes_of (fields_of file) ++ left_of file ≡ file
 unfolding fields_of left_of
@@ -77,21 +77,21 @@ unfoldable pub AllBytes : List Field → Type 0
 AllBytes [] = Unit
 AllBytes (f ∷ fs) = Bytes f.value × AllBytes fs
 
-bytes-if : (t : Bool) (n : ℕ) (bytes : List ℕ) → Bytes bytes → AllBytes (fieldsWithin n (behind bytes))
-    → AllBytes (cond t (first bytes ∷ fieldsWithin n (behind bytes)) [])
+bytes-if : (t : Bool) (n : ℕ) (bytes : List ℕ) → Bytes bytes → AllBytes (fields_within n (behind bytes))
+    → AllBytes (cond t (first bytes ∷ fields_within n (behind bytes)) [])
 unfolding AllBytes
 bytes-if false n bytes b ih = tt
 bytes-if true n bytes b ih =
     ((λ i. bytes-take-if (ltb i (number_at bytes 1)) (number_at bytes 1) i (drop 3 bytes) (bytes_drop 3 bytes b) refl), ih)
 
-bytes-fields : (n : ℕ) (bytes : List ℕ) → Bytes bytes → AllBytes (fieldsWithin n bytes)
-unfolding AllBytes fieldsWithin
-bytes-fields zero bytes b = tt
-bytes-fields (suc n) bytes b = bytes-if (is_whole bytes) n bytes b (bytes-fields n (behind bytes) (bytes_drop (3 + number_at bytes 1) bytes b))
+bytes_fields : (n : ℕ) (bytes : List ℕ) → Bytes bytes → AllBytes (fields_within n bytes)
+unfolding AllBytes fields_within
+bytes_fields zero bytes b = tt
+bytes_fields (suc n) bytes b = bytes-if (is_whole bytes) n bytes b (bytes_fields n (behind bytes) (bytes_drop (3 + number_at bytes 1) bytes b))
 
-pub all-bytes : (file : List ℕ) → Bytes file → AllBytes (fields_of file)
+pub all_bytes : (file : List ℕ) → Bytes file → AllBytes (fields_of file)
 unfolding fields_of
-all-bytes file b = bytes-fields (length file) file b
+all_bytes file b = bytes_fields (length file) file b
 
 -- Those of the last.
 pub last-bytes : (fs : List Field) (v : List ℕ) → AllBytes (fs ++ (field 4 v ∷ [])) → Bytes v

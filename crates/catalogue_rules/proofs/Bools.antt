@@ -23,9 +23,9 @@ or_yes a b e = rw e
 pub or_no : (a b : Bool) → a ≡ false → a || b ≡ b
 or_no a b e = rw e
 
-pub or-second : (a b : Bool) → b ≡ true → a || b ≡ true
-or-second true b e = refl
-or-second false b e = e
+pub or_second : (a b : Bool) → b ≡ true → a || b ≡ true
+or_second true b e = refl
+or_second false b e = e
 
 pub or_left : (a b : Bool) → a || b ≡ false → a ≡ false
 or_left true b e = absurd (true≢false e)
@@ -35,8 +35,8 @@ pub or_right : (a b : Bool) → a || b ≡ false → b ≡ false
 or_right true b e = absurd (true≢false e)
 or_right false b e = e
 
-pub yes-if : {A : Type 0} (b : Bool) (x y : A) → b ≡ true → cond b x y ≡ x
-yes-if b x y e = rw e
+pub yes_if : {A : Type 0} (b : Bool) (x y : A) → b ≡ true → cond b x y ≡ x
+yes_if b x y e = rw e
 
 pub no-if : {A : Type 0} (b : Bool) (x y : A) → b ≡ false → cond b x y ≡ y
 no-if b x y e = rw e

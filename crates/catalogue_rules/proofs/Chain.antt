@@ -7,12 +7,12 @@ use native.Mathlib.Omega.{arith}
 use lib.ListN.{length, take, drop, length-append, length-drop}
 use lib.Seq.{paste, take-length, take_at, drop_at, drop-drop, length-take-le}
 use Rattle.catalogue_rules.specs.Field.{bytes_of}
-use Rattle.catalogue_rules.specs.Edit.{versionFields}
+use Rattle.catalogue_rules.specs.Edit.{version_fields}
 use Rattle.catalogue_rules.specs.Put.{put_at}
 
 -- A copy of all of the bytes.
-pub put-pasted : (area : List ℕ) (at : ℕ) (those : List ℕ) → paste area at those (length those) ≡ put_at area at those
-put-pasted area at those =
+pub put_pasted : (area : List ℕ) (at : ℕ) (those : List ℕ) → paste area at those (length those) ≡ put_at area at those
+put_pasted area at those =
     ap (λ (l : List ℕ). take at area ++ l ++ drop (at + length those) area) (take-length those)
     ∙ append_assoc (take at area) those (drop (at + length those) area)
 
@@ -67,11 +67,11 @@ both-put area at these those fits n e f =
 
 -- The bytes of a version's two fields.
 pub version-bytes : (n : ℕ) (image : List ℕ) → length image ≡ 128
-    → (2 ∷ 2 ∷ 0 ∷ n % 256 ∷ n / 256 ∷ 3 ∷ 128 ∷ 0 ∷ []) ++ image ≡ bytes_of (versionFields n image)
+    → (2 ∷ 2 ∷ 0 ∷ n % 256 ∷ n / 256 ∷ 3 ∷ 128 ∷ 0 ∷ []) ++ image ≡ bytes_of (version_fields n image)
 unfolding bytes_of
 version-bytes n image e =
     ap (λ (l : List ℕ). 2 ∷ 2 ∷ 0 ∷ n % 256 ∷ n / 256 ∷ 3 ∷ 128 ∷ 0 ∷ l) (sym (append-nil image))
     ∙ ap (λ (k : ℕ). 2 ∷ 2 ∷ 0 ∷ n % 256 ∷ n / 256 ∷ 3 ∷ k % 256 ∷ k / 256 ∷ (image ++ [])) (sym e)
 
-pub version-length : (n : ℕ) (image : List ℕ) → length image ≡ 128 → length (bytes_of (versionFields n image)) ≡ 136
+pub version-length : (n : ℕ) (image : List ℕ) → length image ≡ 128 → length (bytes_of (version_fields n image)) ≡ 136
 version-length n image e = ap length (sym (version-bytes n image e)) ∙ omega arith

@@ -6,13 +6,13 @@ use mathlib.Core.List.{List, [], ◌∷◌, ◌++◌}
 use lib.ListN.{length, replicate}
 use Rattle.refusal.specs.declared.Refusal.{Refusal}
 use Rattle.refusal.specs.declared.Refusal.TheVariants.{ArgumentOutside, MakerWrong, ChecksumWrong, NoSuchCard, NoPlace, ListedTwice}
-use Rattle.image_rules.specs.Image.{checkOf, word_at, checksumOf, secondaryOf, xorOf, bothBytes}
-use Rattle.catalogue_rules.specs.Field.{Field, field, is_whole, fieldsWithin, fields_of, leftWithin, left_of, bytes_of}
+use Rattle.image_rules.specs.Image.{check_of, word_at, checksum_of, secondary_of, xor_of, both_bytes}
+use Rattle.catalogue_rules.specs.Field.{Field, field, is_whole, fields_within, fields_of, left_within, left_of, bytes_of}
 use Rattle.catalogue_rules.specs.Turns.{address_of, after}
-use Rattle.catalogue_rules.specs.Reading.{fileOf, reading, read, addressesOf, anyTwice}
-use Rattle.catalogue_rules.specs.Cards.{versionsFrom, versionsAt, cardsOf}
-use Rattle.catalogue_rules.specs.Archive.{addressesIn, movedIn, row_of, imagesOf}
-use Rattle.catalogue_rules.specs.Edit.{Change, bytes, no, versionFields, atCardsEnd, withVersion, latestNumber, withoutImage, withoutOldest, withoutVersion, withAdded, addedTo, added, droppedFrom, imagesIn, imagesWithin, anyFor, allSound, imported, exported}
+use Rattle.catalogue_rules.specs.Reading.{file_of, reading, read, addresses_of, any_twice}
+use Rattle.catalogue_rules.specs.Cards.{versions_from, versions_at, cards_of}
+use Rattle.catalogue_rules.specs.Archive.{addresses_in, moved_in, row_of, images_of}
+use Rattle.catalogue_rules.specs.Edit.{Change, bytes, no, version_fields, at_cards_end, with_version, latest_number, without_image, without_oldest, without_version, with_added, added_to, added, dropped_from, images_in, images_within, any_for, all_sound, imported, exported}
 
 -- Two cards, with an unknown field behind the first one's image.
 one : List ℕ
@@ -26,31 +26,31 @@ cards =
     field 1 one ∷ field 2 (7 ∷ 0 ∷ []) ∷ field 3 (70 ∷ []) ∷ field 99 (5 ∷ []) ∷ field 1 two ∷ field 2 (1 ∷ 0 ∷ []) ∷ field 3 (10 ∷ []) ∷ []
 
 -- A new version goes behind the unknown field, before the next card; its number is the latest plus 1.
-latest-number : latestNumber (versionsAt 1 cards) ≡ 7
-unfolding latestNumber versionsAt versionsFrom cards one two address_of
+latest-number : latest_number (versions_at 1 cards) ≡ 7
+unfolding latest_number versions_at versions_from cards one two address_of
 latest-number = refl
 
-version-added : withVersion 1 (versionFields 8 (80 ∷ [])) cards
+version-added : with_version 1 (version_fields 8 (80 ∷ [])) cards
     ≡ field 1 one ∷ field 2 (7 ∷ 0 ∷ []) ∷ field 3 (70 ∷ []) ∷ field 99 (5 ∷ []) ∷ field 2 (8 ∷ 0 ∷ []) ∷ field 3 (80 ∷ [])
     ∷ field 1 two ∷ field 2 (1 ∷ 0 ∷ []) ∷ field 3 (10 ∷ []) ∷ []
-unfolding withVersion atCardsEnd cards one two address_of
+unfolding with_version at_cards_end cards one two address_of
 version-added = refl
 
 -- The card leaves with its last version, and the unknown field stays.
-card-gone : withoutVersion 1 cards ≡ field 99 (5 ∷ []) ∷ field 1 two ∷ field 2 (1 ∷ 0 ∷ []) ∷ field 3 (10 ∷ []) ∷ []
-unfolding withoutVersion withoutOldest withoutImage versionsFrom cards one two address_of
+card-gone : without_version 1 cards ≡ field 99 (5 ∷ []) ∷ field 1 two ∷ field 2 (1 ∷ 0 ∷ []) ∷ field 3 (10 ∷ []) ∷ []
+unfolding without_version without_oldest without_image versions_from cards one two address_of
 card-gone = refl
 
 -- Unknown fields before a number and between it and its image stay too.
-unknown-kept : withoutOldest (field 98 (4 ∷ []) ∷ field 2 (7 ∷ 0 ∷ []) ∷ field 99 (5 ∷ []) ∷ field 3 (70 ∷ []) ∷ [])
+unknown_kept : without_oldest (field 98 (4 ∷ []) ∷ field 2 (7 ∷ 0 ∷ []) ∷ field 99 (5 ∷ []) ∷ field 3 (70 ∷ []) ∷ [])
     ≡ field 98 (4 ∷ []) ∷ field 99 (5 ∷ []) ∷ []
-unfolding withoutOldest withoutImage
-unknown-kept = refl
+unfolding without_oldest without_image
+unknown_kept = refl
 
 -- Of two versions the oldest goes, and the card stays.
-oldest-gone : withoutVersion 1 (withVersion 1 (versionFields 8 (80 ∷ [])) cards)
+oldest-gone : without_version 1 (with_version 1 (version_fields 8 (80 ∷ [])) cards)
     ≡ field 1 one ∷ field 99 (5 ∷ []) ∷ field 2 (8 ∷ 0 ∷ []) ∷ field 3 (80 ∷ []) ∷ field 1 two ∷ field 2 (1 ∷ 0 ∷ []) ∷ field 3 (10 ∷ []) ∷ []
-unfolding withoutVersion withoutOldest withoutImage versionsFrom withVersion atCardsEnd cards one two address_of
+unfolding without_version without_oldest without_image versions_from with_version at_cards_end cards one two address_of
 oldest-gone = refl
 
 -- ---- the calls, with their refusals
@@ -59,22 +59,22 @@ oldest-gone = refl
 image_of : ℕ → ℕ → List ℕ
 image_of a sum = 0 ∷ 0 ∷ 0 ∷ 0 ∷ a ∷ 0 ∷ (replicate 8 0 ++ (0x50 ∷ 0x6D ∷ (replicate 15 0 ++ (sum ∷ replicate 96 0))))
 
-imageOne : List ℕ
+image_one : List ℕ
 unfolding image_of
-imageOne = image_of 1 0x3C
+image_one = image_of 1 0x3C
 
-imageTwo : List ℕ
+image_two : List ℕ
 unfolding image_of
-imageTwo = image_of 2 0x3F
+image_two = image_of 2 0x3F
 
 -- Cards so many, with addresses from 1 on; versions so many, of the card at 1. Their images are short.
-cardsUpTo : ℕ → List Field
-cardsUpTo zero = []
-cardsUpTo (suc n) = field 1 (0 ∷ 0 ∷ 0 ∷ 0 ∷ 0 ∷ suc n ∷ []) ∷ field 2 (1 ∷ 0 ∷ []) ∷ field 3 [] ∷ cardsUpTo n
+cards_up_to : ℕ → List Field
+cards_up_to zero = []
+cards_up_to (suc n) = field 1 (0 ∷ 0 ∷ 0 ∷ 0 ∷ 0 ∷ suc n ∷ []) ∷ field 2 (1 ∷ 0 ∷ []) ∷ field 3 [] ∷ cards_up_to n
 
-versionsUpFrom : ℕ → ℕ → List Field
-versionsUpFrom n zero = []
-versionsUpFrom n (suc more) = field 2 (n ∷ 0 ∷ []) ∷ field 3 [] ∷ versionsUpFrom (n + 1) more
+versions_up_from : ℕ → ℕ → List Field
+versions_up_from n zero = []
+versions_up_from n (suc more) = field 2 (n ∷ 0 ∷ []) ∷ field 3 [] ∷ versions_up_from (n + 1) more
 
 -- How many bytes a change has, or the refusal.
 data Size : Type 0 where
@@ -86,126 +86,126 @@ size (bytes b) = long (length b)
 size (no r) = why r
 
 -- A 64th card is added, a 65th has no place.
-card-64 : size (addedTo (image_of 64 0x7D) (cardsUpTo 63)) ≡ long 1221
-unfolding size addedTo withAdded anyTwice addressesOf address_of versionsAt versionsFrom latestNumber withVersion atCardsEnd fileOf bytes_of checkOf word_at checksumOf secondaryOf xorOf bothBytes image_of cardsUpTo
-card-64 = refl
+card_64 : size (added_to (image_of 64 0x7D) (cards_up_to 63)) ≡ long 1221
+unfolding size added_to with_added any_twice addresses_of address_of versions_at versions_from latest_number with_version at_cards_end file_of bytes_of check_of word_at checksum_of secondary_of xor_of both_bytes image_of cards_up_to
+card_64 = refl
 
-card-65 : size (addedTo (image_of 65 0x7C) (cardsUpTo 64)) ≡ why NoPlace
-unfolding size addedTo withAdded anyTwice addressesOf address_of versionsAt versionsFrom latestNumber withVersion atCardsEnd fileOf bytes_of checkOf word_at checksumOf secondaryOf xorOf bothBytes image_of cardsUpTo
-card-65 = refl
+card_65 : size (added_to (image_of 65 0x7C) (cards_up_to 64)) ≡ why NoPlace
+unfolding size added_to with_added any_twice addresses_of address_of versions_at versions_from latest_number with_version at_cards_end file_of bytes_of check_of word_at checksum_of secondary_of xor_of both_bytes image_of cards_up_to
+card_65 = refl
 
 -- An eighth version is added, a ninth has no place.
-version-8 : size (addedTo imageOne (field 1 one ∷ versionsUpFrom 1 7)) ≡ long 206
-unfolding size addedTo withAdded anyTwice addressesOf address_of versionsAt versionsFrom latestNumber withVersion atCardsEnd fileOf bytes_of checkOf word_at checksumOf secondaryOf xorOf bothBytes imageOne image_of versionsUpFrom one
-version-8 = refl
+version_8 : size (added_to image_one (field 1 one ∷ versions_up_from 1 7)) ≡ long 206
+unfolding size added_to with_added any_twice addresses_of address_of versions_at versions_from latest_number with_version at_cards_end file_of bytes_of check_of word_at checksum_of secondary_of xor_of both_bytes image_one image_of versions_up_from one
+version_8 = refl
 
-version-9 : size (addedTo imageOne (field 1 one ∷ versionsUpFrom 1 8)) ≡ why NoPlace
-unfolding size addedTo withAdded anyTwice addressesOf address_of versionsAt versionsFrom latestNumber withVersion atCardsEnd fileOf bytes_of checkOf word_at checksumOf secondaryOf xorOf bothBytes imageOne image_of versionsUpFrom one
-version-9 = refl
+version_9 : size (added_to image_one (field 1 one ∷ versions_up_from 1 8)) ≡ why NoPlace
+unfolding size added_to with_added any_twice addresses_of address_of versions_at versions_from latest_number with_version at_cards_end file_of bytes_of check_of word_at checksum_of secondary_of xor_of both_bytes image_one image_of versions_up_from one
+version_9 = refl
 
 -- The number 7 is followed by 8.
-number-8 : addedTo imageOne (field 1 one ∷ field 2 (7 ∷ 0 ∷ []) ∷ field 3 [] ∷ [])
-    ≡ bytes (fileOf (field 1 one ∷ field 2 (7 ∷ 0 ∷ []) ∷ field 3 [] ∷ field 2 (8 ∷ 0 ∷ []) ∷ field 3 imageOne ∷ []))
-unfolding addedTo withAdded anyTwice addressesOf address_of versionsAt versionsFrom latestNumber withVersion atCardsEnd fileOf bytes_of checkOf word_at checksumOf secondaryOf xorOf bothBytes imageOne image_of one
-number-8 = refl
+number_8 : added_to image_one (field 1 one ∷ field 2 (7 ∷ 0 ∷ []) ∷ field 3 [] ∷ [])
+    ≡ bytes (file_of (field 1 one ∷ field 2 (7 ∷ 0 ∷ []) ∷ field 3 [] ∷ field 2 (8 ∷ 0 ∷ []) ∷ field 3 image_one ∷ []))
+unfolding added_to with_added any_twice addresses_of address_of versions_at versions_from latest_number with_version at_cards_end file_of bytes_of check_of word_at checksum_of secondary_of xor_of both_bytes image_one image_of one
+number_8 = refl
 
 -- A first version takes 145 bytes more than the file, here the 5 of the count.
-area-of-150 : size (added 150 (fileOf []) imageOne) ≡ long 150
-unfolding size added addedTo withAdded reading anyTwice fields_of left_of fieldsWithin leftWithin is_whole after addressesOf address_of versionsAt versionsFrom latestNumber withVersion atCardsEnd fileOf bytes_of checkOf word_at checksumOf secondaryOf xorOf bothBytes imageOne image_of
-area-of-150 = refl
+area_of_150 : size (added 150 (file_of []) image_one) ≡ long 150
+unfolding size added added_to with_added reading any_twice fields_of left_of fields_within left_within is_whole after addresses_of address_of versions_at versions_from latest_number with_version at_cards_end file_of bytes_of check_of word_at checksum_of secondary_of xor_of both_bytes image_one image_of
+area_of_150 = refl
 
-area-of-149 : size (added 149 (fileOf []) imageOne) ≡ why ArgumentOutside
-unfolding size added addedTo withAdded reading anyTwice fields_of left_of fieldsWithin leftWithin is_whole after addressesOf address_of versionsAt versionsFrom latestNumber withVersion atCardsEnd fileOf bytes_of checkOf word_at checksumOf secondaryOf xorOf bothBytes imageOne image_of
-area-of-149 = refl
+area_of_149 : size (added 149 (file_of []) image_one) ≡ why ArgumentOutside
+unfolding size added added_to with_added reading any_twice fields_of left_of fields_within left_within is_whole after addresses_of address_of versions_at versions_from latest_number with_version at_cards_end file_of bytes_of check_of word_at checksum_of secondary_of xor_of both_bytes image_one image_of
+area_of_149 = refl
 
 -- The file without card 1: four fields are left, and counted. A card that is not there is not dropped.
-card-1-dropped : droppedFrom 1 cards
+card_1_dropped : dropped_from 1 cards
     ≡ bytes (99 ∷ 1 ∷ 0 ∷ 5 ∷ 1 ∷ 6 ∷ 0 ∷ 0 ∷ 0 ∷ 0 ∷ 0 ∷ 0 ∷ 2 ∷ 2 ∷ 2 ∷ 0 ∷ 1 ∷ 0 ∷ 3 ∷ 1 ∷ 0 ∷ 10 ∷ 4 ∷ 2 ∷ 0 ∷ 4 ∷ 0 ∷ [])
-unfolding droppedFrom addressesOf anyTwice withoutVersion withoutOldest withoutImage versionsFrom fileOf bytes_of cards one two address_of
-card-1-dropped = refl
+unfolding dropped_from addresses_of any_twice without_version without_oldest without_image versions_from file_of bytes_of cards one two address_of
+card_1_dropped = refl
 
-card-3-dropped : droppedFrom 3 cards ≡ no NoSuchCard
-unfolding droppedFrom addressesOf anyTwice withoutVersion withoutOldest withoutImage versionsFrom fileOf bytes_of cards one two address_of
-card-3-dropped = refl
+card_3_dropped : dropped_from 3 cards ≡ no NoSuchCard
+unfolding dropped_from addresses_of any_twice without_version without_oldest without_image versions_from file_of bytes_of cards one two address_of
+card_3_dropped = refl
 
 -- ---- the order of the refusals
 
 -- Card 2 is listed twice. Card 1, not listed, is not dropped: 17 before 19. Card 2 is: 19.
-twoTwice : List Field
-twoTwice = field 1 two ∷ field 2 (1 ∷ 0 ∷ []) ∷ field 3 [] ∷ field 1 two ∷ field 2 (1 ∷ 0 ∷ []) ∷ field 3 [] ∷ []
+two_twice : List Field
+two_twice = field 1 two ∷ field 2 (1 ∷ 0 ∷ []) ∷ field 3 [] ∷ field 1 two ∷ field 2 (1 ∷ 0 ∷ []) ∷ field 3 [] ∷ []
 
-missing-before-twice : droppedFrom 1 twoTwice ≡ no NoSuchCard
-unfolding droppedFrom addressesOf anyTwice address_of twoTwice two
-missing-before-twice = refl
+missing_before_twice : dropped_from 1 two_twice ≡ no NoSuchCard
+unfolding dropped_from addresses_of any_twice address_of two_twice two
+missing_before_twice = refl
 
-twice-dropped : droppedFrom 2 twoTwice ≡ no ListedTwice
-unfolding droppedFrom addressesOf anyTwice address_of twoTwice two
-twice-dropped = refl
+twice_dropped : dropped_from 2 two_twice ≡ no ListedTwice
+unfolding dropped_from addresses_of any_twice address_of two_twice two
+twice_dropped = refl
 
 -- A card that is not among 65 is not dropped: 17 before 18. One that is among them: 18.
-missing-before-crowded : droppedFrom 66 (cardsUpTo 65) ≡ no NoSuchCard
-unfolding droppedFrom addressesOf anyTwice address_of cardsUpTo
-missing-before-crowded = refl
+missing_before_crowded : dropped_from 66 (cards_up_to 65) ≡ no NoSuchCard
+unfolding dropped_from addresses_of any_twice address_of cards_up_to
+missing_before_crowded = refl
 
-crowded-dropped : droppedFrom 65 (cardsUpTo 65) ≡ no NoPlace
-unfolding droppedFrom addressesOf anyTwice address_of cardsUpTo
-crowded-dropped = refl
+crowded_dropped : dropped_from 65 (cards_up_to 65) ≡ no NoPlace
+unfolding dropped_from addresses_of any_twice address_of cards_up_to
+crowded_dropped = refl
 
 -- A ninth version of card 1 beside a card 2 that is listed twice: 18 before 19. An eighth: 19.
-ninth-before-twice : size (addedTo imageOne ((field 1 one ∷ versionsUpFrom 1 8) ++ twoTwice)) ≡ why NoPlace
-unfolding size addedTo anyTwice addressesOf address_of versionsAt versionsFrom latestNumber imageOne image_of versionsUpFrom one twoTwice two
-ninth-before-twice = refl
+ninth_before_twice : size (added_to image_one ((field 1 one ∷ versions_up_from 1 8) ++ two_twice)) ≡ why NoPlace
+unfolding size added_to any_twice addresses_of address_of versions_at versions_from latest_number image_one image_of versions_up_from one two_twice two
+ninth_before_twice = refl
 
-eighth-beside-twice : size (addedTo imageOne ((field 1 one ∷ versionsUpFrom 1 7) ++ twoTwice)) ≡ why ListedTwice
-unfolding size addedTo anyTwice addressesOf address_of versionsAt versionsFrom latestNumber imageOne image_of versionsUpFrom one twoTwice two
-eighth-beside-twice = refl
+eighth_beside_twice : size (added_to image_one ((field 1 one ∷ versions_up_from 1 7) ++ two_twice)) ≡ why ListedTwice
+unfolding size added_to any_twice addresses_of address_of versions_at versions_from latest_number image_one image_of versions_up_from one two_twice two
+eighth_beside_twice = refl
 
 -- A version of a card that is one of 65 has no place, whatever else.
-crowded-added : size (addedTo imageOne (cardsUpTo 65)) ≡ why NoPlace
-unfolding size addedTo anyTwice addressesOf address_of versionsAt versionsFrom latestNumber imageOne image_of cardsUpTo
-crowded-added = refl
+crowded_added : size (added_to image_one (cards_up_to 65)) ≡ why NoPlace
+unfolding size added_to any_twice addresses_of address_of versions_at versions_from latest_number image_one image_of cards_up_to
+crowded_added = refl
 
 -- An unsound image beside a card that is listed twice: 19 before 9.
-twice-before-unsound : size (addedTo (image_of 1 0) twoTwice) ≡ why ListedTwice
-unfolding size addedTo anyTwice addressesOf address_of versionsAt versionsFrom latestNumber image_of twoTwice two
-twice-before-unsound = refl
+twice_before_unsound : size (added_to (image_of 1 0) two_twice) ≡ why ListedTwice
+unfolding size added_to any_twice addresses_of address_of versions_at versions_from latest_number image_of two_twice two
+twice_before_unsound = refl
 
 -- An archive takes 145 bytes to an image and 5 for the count.
-import-150 : size (imported 150 imageOne) ≡ long 150
-unfolding size imported imagesIn imagesWithin allSound anyFor anyTwice addressesIn movedIn address_of fileOf bytes_of checkOf word_at checksumOf secondaryOf xorOf bothBytes imageOne image_of
-import-150 = refl
+import_150 : size (imported 150 image_one) ≡ long 150
+unfolding size imported images_in images_within all_sound any_for any_twice addresses_in moved_in address_of file_of bytes_of check_of word_at checksum_of secondary_of xor_of both_bytes image_one image_of
+import_150 = refl
 
-import-149 : size (imported 149 imageOne) ≡ why ArgumentOutside
-unfolding size imported imagesIn imagesWithin allSound anyFor anyTwice addressesIn movedIn address_of fileOf bytes_of checkOf word_at checksumOf secondaryOf xorOf bothBytes imageOne image_of
-import-149 = refl
+import_149 : size (imported 149 image_one) ≡ why ArgumentOutside
+unfolding size imported images_in images_within all_sound any_for any_twice addresses_in moved_in address_of file_of bytes_of check_of word_at checksum_of secondary_of xor_of both_bytes image_one image_of
+import_149 = refl
 
 -- The last image has the address of the first; the last image is unsound; 65 images.
-last-twice : size (imported 440 (imageOne ++ (imageTwo ++ imageOne))) ≡ why ListedTwice
-unfolding size imported imagesIn imagesWithin allSound anyFor anyTwice addressesIn movedIn address_of fileOf bytes_of checkOf word_at checksumOf secondaryOf xorOf bothBytes imageOne imageTwo image_of
-last-twice = refl
+last_twice : size (imported 440 (image_one ++ (image_two ++ image_one))) ≡ why ListedTwice
+unfolding size imported images_in images_within all_sound any_for any_twice addresses_in moved_in address_of file_of bytes_of check_of word_at checksum_of secondary_of xor_of both_bytes image_one image_two image_of
+last_twice = refl
 
-last-unsound : size (imported 295 (imageOne ++ image_of 2 0x3E)) ≡ why ChecksumWrong
-unfolding size imported imagesIn imagesWithin allSound anyFor anyTwice addressesIn movedIn address_of fileOf bytes_of checkOf word_at checksumOf secondaryOf xorOf bothBytes imageOne image_of
+last-unsound : size (imported 295 (image_one ++ image_of 2 0x3E)) ≡ why ChecksumWrong
+unfolding size imported images_in images_within all_sound any_for any_twice addresses_in moved_in address_of file_of bytes_of check_of word_at checksum_of secondary_of xor_of both_bytes image_one image_of
 last-unsound = refl
 
 -- The first image answers 9 and the second 8, or the other way round: 8 wins.
-nine-then-eight : size (imported 295 (image_of 2 0x3E ++ replicate 128 0)) ≡ why MakerWrong
-unfolding size imported imagesIn imagesWithin allSound anyFor anyTwice addressesIn address_of checkOf word_at checksumOf secondaryOf xorOf bothBytes image_of
-nine-then-eight = refl
+nine_then_eight : size (imported 295 (image_of 2 0x3E ++ replicate 128 0)) ≡ why MakerWrong
+unfolding size imported images_in images_within all_sound any_for any_twice addresses_in address_of check_of word_at checksum_of secondary_of xor_of both_bytes image_of
+nine_then_eight = refl
 
-eight-then-nine : size (imported 295 (replicate 128 0 ++ image_of 2 0x3E)) ≡ why MakerWrong
-unfolding size imported imagesIn imagesWithin allSound anyFor anyTwice addressesIn address_of checkOf word_at checksumOf secondaryOf xorOf bothBytes image_of
-eight-then-nine = refl
+eight_then_nine : size (imported 295 (replicate 128 0 ++ image_of 2 0x3E)) ≡ why MakerWrong
+unfolding size imported images_in images_within all_sound any_for any_twice addresses_in address_of check_of word_at checksum_of secondary_of xor_of both_bytes image_of
+eight_then_nine = refl
 
-images-65 : imported 9430 (replicate 8320 0) ≡ no NoPlace
+images_65 : imported 9430 (replicate 8320 0) ≡ no NoPlace
 unfolding imported
-images-65 = refl
+images_65 = refl
 
 -- An export asks for 8,192 bytes, even for no card.
-export-8192 : size (exported 8192 (fileOf [])) ≡ long 0
-unfolding size exported row_of imagesOf cardsOf read reading addressesOf anyTwice fields_of left_of fieldsWithin leftWithin is_whole after fileOf bytes_of
-export-8192 = refl
+export_8192 : size (exported 8192 (file_of [])) ≡ long 0
+unfolding size exported row_of images_of cards_of read reading addresses_of any_twice fields_of left_of fields_within left_within is_whole after file_of bytes_of
+export_8192 = refl
 
-export-8191 : size (exported 8191 (fileOf [])) ≡ why ArgumentOutside
-unfolding size exported row_of imagesOf cardsOf read reading addressesOf anyTwice fields_of left_of fieldsWithin leftWithin is_whole after fileOf bytes_of
-export-8191 = refl
+export_8191 : size (exported 8191 (file_of [])) ≡ why ArgumentOutside
+unfolding size exported row_of images_of cards_of read reading addresses_of any_twice fields_of left_of fields_within left_within is_whole after file_of bytes_of
+export_8191 = refl

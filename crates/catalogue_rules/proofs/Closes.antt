@@ -10,21 +10,21 @@ use lib.ListN.{length, drop, length-drop, drop_of_length-le}
 use lib.Dec.{eqb}
 use Rattle.refusal.specs.declared.Refusal.TheVariants.{FieldDamaged}
 use Rattle.catalogue_rules.specs.Field.{Field, field, number_at, is_whole, first, behind, fields_of, left_of}
-use Rattle.catalogue_rules.proofs.Runs.{is_cut, fields-step, fields-stop, left-stop}
+use Rattle.catalogue_rules.proofs.Runs.{is_cut, fields_step, fields_stop, left_stop}
 use Rattle.catalogue_rules.specs.declared.Turn.{Turn}
 use Rattle.catalogue_rules.specs.declared.Judged.{Judged}
 use Rattle.catalogue_rules.specs.declared.Judged.TheVariants.{Sound, Refused}
-use Rattle.catalogue_rules.specs.Turns.{mayEnd}
-use Rattle.catalogue_rules.specs.Reading.{catalogue, refused, is_last, addressesOf, judged}
-use Rattle.catalogue_rules.specs.FileWalk.{behindSo, closes}
+use Rattle.catalogue_rules.specs.Turns.{may_end}
+use Rattle.catalogue_rules.specs.Reading.{catalogue, refused, is_last, addresses_of, judged}
+use Rattle.catalogue_rules.specs.FileWalk.{behind_so, closes}
 use Rattle.catalogue_rules.proofs.Bools.{and_no, and_yes}
 
 nothing_left : is_last (fields_of []) (left_of []) ≡ true
-nothing_left = rw (fields-stop [] (is_cut [] (omega arith)), left-stop [] (is_cut [] (omega arith)))
+nothing_left = rw (fields_stop [] (is_cut [] (omega arith)), left_stop [] (is_cut [] (omega arith)))
 
 some-left-if : (t : Bool) (x : ℕ) (xs : List ℕ) → is_whole (x ∷ xs) ≡ t → is_last (fields_of (x ∷ xs)) (left_of (x ∷ xs)) ≡ false
-some-left-if true x xs w = ap (λ (fs : List Field). is_last fs (left_of (x ∷ xs))) (fields-step (x ∷ xs) w)
-some-left-if false x xs w = ap₂ is_last (fields-stop (x ∷ xs) w) (left-stop (x ∷ xs) w)
+some-left-if true x xs w = ap (λ (fs : List Field). is_last fs (left_of (x ∷ xs))) (fields_step (x ∷ xs) w)
+some-left-if false x xs w = ap₂ is_last (fields_stop (x ∷ xs) w) (left_stop (x ∷ xs) w)
 
 some_left : (rest : List ℕ) → 0 < length rest → is_last (fields_of rest) (left_of rest) ≡ false
 some_left [] h = absurd (omega arith)
@@ -35,39 +35,39 @@ none_left [] h = nothing_left
 none_left (x ∷ xs) h = absurd (omega arith)
 
 shown : ℕ → ℕ → Bool → Judged
-shown cards n t = behindSo cards n (judged (cond t (catalogue []) (refused FieldDamaged)))
+shown cards n t = behind_so cards n (judged (cond t (catalogue []) (refused FieldDamaged)))
 
 fails : (cards n : ℕ) (t : Bool) → t ≡ false → Refused FieldDamaged ≡ shown cards n t
 unfolding shown
 fails cards n t e = rw e
 
 holds : (cards n : ℕ) (t : Bool) → t ≡ true → Sound cards n ≡ shown cards n t
-unfolding shown addressesOf
+unfolding shown addresses_of
 holds cards n t e =
     let p : cards ≡ cards + 0 = omega arith in
     let q : n ≡ n + 0 = omega arith in
-    ap₂ (λ (x y : ℕ). Sound x y) p q ∙ ap (λ (s : Bool). behindSo cards n (judged (cond s (catalogue []) (refused FieldDamaged)))) (sym e)
+    ap₂ (λ (x y : ℕ). Sound x y) p q ∙ ap (λ (s : Bool). behind_so cards n (judged (cond s (catalogue []) (refused FieldDamaged)))) (sym e)
 
 module _ (turn : Turn) (n cards : ℕ) (v rest : List ℕ) where
-  unended : mayEnd turn ≡ false → Refused FieldDamaged ≡ closes turn n cards (field 4 v) rest
+  unended : may_end turn ≡ false → Refused FieldDamaged ≡ closes turn n cards (field 4 v) rest
   unfolding closes shown
-  unended m = fails cards n _ (and_no (mayEnd turn) _ m)
+  unended m = fails cards n _ (and_no (may_end turn) _ m)
 
-  module _ (m : mayEnd turn ≡ true) where
+  module _ (m : may_end turn ≡ true) where
     pub misfit : (length v ≡ 2 → ⊥) → Refused FieldDamaged ≡ closes turn n cards (field 4 v) rest
     unfolding closes shown
-    misfit two = fails cards n _ (and_yes (mayEnd turn) _ false m (and_no (eqb (length v) 2) _ (ne_eqb (length v) 2 two)))
+    misfit two = fails cards n _ (and_yes (may_end turn) _ false m (and_no (eqb (length v) 2) _ (ne_eqb (length v) 2 two)))
 
     module _ (two : length v ≡ 2) where
       pub miscounted : (number_at v 0 ≡ n → ⊥) → Refused FieldDamaged ≡ closes turn n cards (field 4 v) rest
       unfolding closes shown
       miscounted k =
-          fails cards n _ (and_yes (mayEnd turn) _ false m (and_yes (eqb (length v) 2) _ false (eq-eqb (length v) 2 two) (and_no (eqb (number_at v 0) n) _ (ne_eqb (number_at v 0) n k))))
+          fails cards n _ (and_yes (may_end turn) _ false m (and_yes (eqb (length v) 2) _ false (eq-eqb (length v) 2 two) (and_no (eqb (number_at v 0) n) _ (ne_eqb (number_at v 0) n k))))
 
       module _ (k : number_at v 0 ≡ n) where
         ended : (t : Bool) → is_last (fields_of rest) (left_of rest) ≡ t
-            → mayEnd turn && (eqb (length v) 2 && (eqb (number_at v 0) n && is_last (fields_of rest) (left_of rest))) ≡ t
-        ended t e = and_yes (mayEnd turn) _ t m (and_yes (eqb (length v) 2) _ t (eq-eqb (length v) 2 two) (and_yes (eqb (number_at v 0) n) _ t (eq-eqb (number_at v 0) n k) e))
+            → may_end turn && (eqb (length v) 2 && (eqb (number_at v 0) n && is_last (fields_of rest) (left_of rest))) ≡ t
+        ended t e = and_yes (may_end turn) _ t m (and_yes (eqb (length v) 2) _ t (eq-eqb (length v) 2 two) (and_yes (eqb (number_at v 0) n) _ t (eq-eqb (number_at v 0) n k) e))
 
         pub followed : 0 < length rest → Refused FieldDamaged ≡ closes turn n cards (field 4 v) rest
         unfolding closes shown
@@ -77,5 +77,5 @@ module _ (turn : Turn) (n cards : ℕ) (v rest : List ℕ) where
         unfolding closes shown
         closed h = holds cards n _ (ended true (none_left rest h))
 
-pub not-ended : (turn : Turn) (n cards : ℕ) (v rest : List ℕ) → mayEnd turn ≡ false → Refused FieldDamaged ≡ closes turn n cards (field 4 v) rest
+pub not-ended : (turn : Turn) (n cards : ℕ) (v rest : List ℕ) → may_end turn ≡ false → Refused FieldDamaged ≡ closes turn n cards (field 4 v) rest
 not-ended = unended

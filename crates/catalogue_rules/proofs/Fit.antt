@@ -10,15 +10,15 @@ use lib.ListN.{length, get_or, take, drop, length-take}
 use lib.Dec.{eqb, leb}
 use Rattle.refusal.specs.declared.Refusal.{Refusal}
 use Rattle.refusal.specs.declared.Refusal.TheVariants.{FieldDamaged}
-use Rattle.catalogue_rules.specs.Field.{Field, field, number_at, is_whole, first, behind, fieldsWithin, fields_of, left_of}
+use Rattle.catalogue_rules.specs.Field.{Field, field, number_at, is_whole, first, behind, fields_within, fields_of, left_of}
 use Rattle.catalogue_rules.specs.declared.Turn.{Turn}
 use Rattle.catalogue_rules.specs.declared.Turn.TheVariants.{Begun}
-use Rattle.catalogue_rules.specs.Turns.{after, mayEnd, isDamaged}
-use Rattle.catalogue_rules.specs.Reading.{Reading, catalogue, refused, with, is_last, ends, reading, addressesOf, anyTwice, roomy, read}
+use Rattle.catalogue_rules.specs.Turns.{after, may_end, is_damaged}
+use Rattle.catalogue_rules.specs.Reading.{Reading, catalogue, refused, with, is_last, ends, reading, addresses_of, any_twice, roomy, read}
 use Rattle.catalogue_rules.proofs.Bools.{and_left}
 use Rattle.catalogue_rules.proofs.Came.{Came, came, roomy-only}
 use Rattle.catalogue_rules.specs.RoundTrip.{in_turn, Sizes, WellFormed, Bytes, AcceptedIsWellFormed}
-use Rattle.catalogue_rules.proofs.Back.{AllBytes, all-bytes, bytes_drop, last-bytes}
+use Rattle.catalogue_rules.proofs.Back.{AllBytes, all_bytes, bytes_drop, last-bytes}
 
 -- ---- turns
 
@@ -28,9 +28,9 @@ unfolding in_turn
 turn_last false turn n f l fs t e = let z : ◌≡◌ {A = ℕ} 0 1 = cc in absurd (omega arith)
 turn_last true turn n f l fs t e =
     let q : [] ≡ fs = cc in
-    ap (in_turn turn) (sym q) ∙ and_left (mayEnd turn) (eqb (length f.value) 2 && (eqb (number_at f.value 0) n && l)) t
+    ap (in_turn turn) (sym q) ∙ and_left (may_end turn) (eqb (length f.value) 2 && (eqb (number_at f.value 0) n && l)) t
 
-turn_on : (r : Reading) (turn : Turn) (f : Field) (fs : List Field) → eqb f.tag 4 ≡ false → isDamaged (after turn f) ≡ false
+turn_on : (r : Reading) (turn : Turn) (f : Field) (fs : List Field) → eqb f.tag 4 ≡ false → is_damaged (after turn f) ≡ false
     → ((hs : List Field) → r ≡ catalogue hs → in_turn (after turn f) hs ≡ true) → with f r ≡ catalogue fs → in_turn turn fs ≡ true
 unfolding in_turn
 turn_on (refused why) turn f fs a d ih e = let z : ◌≡◌ {A = ℕ} 0 1 = cc in absurd (omega arith)
@@ -40,20 +40,20 @@ turn_on (catalogue hs) turn f fs a d ih e =
     ∙ ap₂ (λ (x y : Bool). not x && (not y && in_turn (after turn f) hs)) a d
     ∙ ih hs refl
 
-turn-if : (a d : Bool) (turn : Turn) (n : ℕ) (f : Field) (l : Bool) (r : Reading) (fs : List Field) → eqb f.tag 4 ≡ a → isDamaged (after turn f) ≡ d
+turn_if : (a d : Bool) (turn : Turn) (n : ℕ) (f : Field) (l : Bool) (r : Reading) (fs : List Field) → eqb f.tag 4 ≡ a → is_damaged (after turn f) ≡ d
     → ((hs : List Field) → r ≡ catalogue hs → in_turn (after turn f) hs ≡ true)
     → cond a (cond (ends turn n f l) (catalogue []) (refused FieldDamaged)) (cond d (refused FieldDamaged) (with f r)) ≡ catalogue fs
     → in_turn turn fs ≡ true
-turn-if true d turn n f l r fs a b ih e = turn_last (ends turn n f l) turn n f l fs refl e
-turn-if false true turn n f l r fs a b ih e = let z : ◌≡◌ {A = ℕ} 0 1 = cc in absurd (omega arith)
-turn-if false false turn n f l r fs a b ih e = turn_on r turn f fs a b ih e
+turn_if true d turn n f l r fs a b ih e = turn_last (ends turn n f l) turn n f l fs refl e
+turn_if false true turn n f l r fs a b ih e = let z : ◌≡◌ {A = ℕ} 0 1 = cc in absurd (omega arith)
+turn_if false false turn n f l r fs a b ih e = turn_on r turn f fs a b ih e
 
-in-turn : (gs : List Field) (turn : Turn) (n : ℕ) (left : List ℕ) (fs : List Field) → reading turn n gs left ≡ catalogue fs → in_turn turn fs ≡ true
+in_turn_lem : (gs : List Field) (turn : Turn) (n : ℕ) (left : List ℕ) (fs : List Field) → reading turn n gs left ≡ catalogue fs → in_turn turn fs ≡ true
 unfolding reading
-in-turn [] turn n left fs e = let z : ◌≡◌ {A = ℕ} 0 1 = cc in absurd (omega arith)
-in-turn (f ∷ gs) turn n left fs e =
-    turn-if (eqb f.tag 4) (isDamaged (after turn f)) turn n f (is_last gs left) (reading (after turn f) (n + 1) gs left) fs refl refl
-    (λ hs h. in-turn gs (after turn f) (n + 1) left hs h) e
+in_turn_lem [] turn n left fs e = let z : ◌≡◌ {A = ℕ} 0 1 = cc in absurd (omega arith)
+in_turn_lem (f ∷ gs) turn n left fs e =
+    turn_if (eqb f.tag 4) (is_damaged (after turn f)) turn n f (is_last gs left) (reading (after turn f) (n + 1) gs left) fs refl refl
+    (λ hs h. in_turn_lem gs (after turn f) (n + 1) left hs h) e
 
 -- ---- sizes
 
@@ -63,20 +63,20 @@ one_size bytes b =
     let high : get_or bytes 2 0 < 256 = b 2 in
     simp length-take (omega arith)
 
-sizes-if : (t : Bool) (n : ℕ) (bytes : List ℕ) → Bytes bytes → Sizes (fieldsWithin n (behind bytes))
-    → Sizes (cond t (first bytes ∷ fieldsWithin n (behind bytes)) [])
+sizes-if : (t : Bool) (n : ℕ) (bytes : List ℕ) → Bytes bytes → Sizes (fields_within n (behind bytes))
+    → Sizes (cond t (first bytes ∷ fields_within n (behind bytes)) [])
 unfolding Sizes
 sizes-if false n bytes b ih = tt
 sizes-if true n bytes b ih = (one_size bytes b, ih)
 
-sizes-fields : (n : ℕ) (bytes : List ℕ) → Bytes bytes → Sizes (fieldsWithin n bytes)
-unfolding Sizes fieldsWithin
-sizes-fields zero bytes b = tt
-sizes-fields (suc n) bytes b = sizes-if (is_whole bytes) n bytes b (sizes-fields n (behind bytes) (bytes_drop (3 + number_at bytes 1) bytes b))
+sizes_fields : (n : ℕ) (bytes : List ℕ) → Bytes bytes → Sizes (fields_within n bytes)
+unfolding Sizes fields_within
+sizes_fields zero bytes b = tt
+sizes_fields (suc n) bytes b = sizes-if (is_whole bytes) n bytes b (sizes_fields n (behind bytes) (bytes_drop (3 + number_at bytes 1) bytes b))
 
-all-sizes : (file : List ℕ) → Bytes file → Sizes (fields_of file)
+all_sizes : (file : List ℕ) → Bytes file → Sizes (fields_of file)
 unfolding fields_of
-all-sizes file b = sizes-fields (length file) file b
+all_sizes file b = sizes_fields (length file) file b
 
 sizes-before : (fs gs : List Field) → Sizes (fs ++ gs) → Sizes fs
 unfolding Sizes
@@ -95,31 +95,31 @@ roomy-apart true false fs gs why more e = refl
 roomy-apart false b fs gs why more e = let z : ◌≡◌ {A = ℕ} 0 1 = cc in absurd (omega arith)
 
 module _ (file : List ℕ) (fs : List Field) (b : Bytes file) (e : read file ≡ catalogue fs) where
-  was_read : reading Begun 0 (fields_of file) (left_of file) ≡ catalogue fs
+  was_read_lem : reading Begun 0 (fields_of file) (left_of file) ≡ catalogue fs
   unfolding read
-  was_read = roomy-only (reading Begun 0 (fields_of file) (left_of file)) fs e
+  was_read_lem = roomy-only (reading Begun 0 (fields_of file) (left_of file)) fs e
 
   room : roomy (catalogue fs) ≡ catalogue fs
   unfolding read
-  room = ap roomy (sym was_read) ∙ e
+  room = ap roomy (sym was_read_lem) ∙ e
 
-  came-so : Came 0 (fields_of file) (left_of file) fs
-  came-so = came (fields_of file) Begun 0 (left_of file) fs was_read
+  came_so : Came 0 (fields_of file) (left_of file) fs
+  came_so = came (fields_of file) Begun 0 (left_of file) fs was_read_lem
 
-  few-fields : length fs < 65536
-  few-fields =
-      let v : Bytes came-so.value = last-bytes fs came-so.value (subst (λ (gs : List Field). AllBytes gs) came-so.are (all-bytes file b)) in
-      let low : get_or came-so.value 0 0 < 256 = v 0 in
-      let high : get_or came-so.value 1 0 < 256 = v 1 in
-      let k : number_at came-so.value 0 ≡ 0 + length fs = came-so.count in
+  few_fields : length fs < 65536
+  few_fields =
+      let v : Bytes came_so.value = last-bytes fs came_so.value (subst (λ (gs : List Field). AllBytes gs) came_so.are (all_bytes file b)) in
+      let low : get_or came_so.value 0 0 < 256 = v 0 in
+      let high : get_or came_so.value 1 0 < 256 = v 1 in
+      let k : number_at came_so.value 0 ≡ 0 + length fs = came_so.count in
       omega arith
 
-pub accepted-is-well-formed : AcceptedIsWellFormed
-accepted-is-well-formed file fs b e =
+pub accepted_is_well_formed_lem : AcceptedIsWellFormed
+accepted_is_well_formed_lem file fs b e =
     record {
-      turns = in-turn (fields_of file) Begun 0 (left_of file) fs (was_read file fs b e);
-      sizes = sizes-before fs (field 4 (came-so file fs b e).value ∷ []) (subst (λ (gs : List Field). Sizes gs) (came-so file fs b e).are (all-sizes file b));
-      counted = few-fields file fs b e;
-      cards = leb-true (length (addressesOf fs)) 64 (roomy-cards (leb (length (addressesOf fs)) 64) (anyTwice (addressesOf fs)) fs fs _ _ (room file fs b e));
-      apart = roomy-apart (leb (length (addressesOf fs)) 64) (anyTwice (addressesOf fs)) fs fs _ _ (room file fs b e);
+      turns = in_turn_lem (fields_of file) Begun 0 (left_of file) fs (was_read_lem file fs b e);
+      sizes = sizes-before fs (field 4 (came_so file fs b e).value ∷ []) (subst (λ (gs : List Field). Sizes gs) (came_so file fs b e).are (all_sizes file b));
+      counted = few_fields file fs b e;
+      cards = leb-true (length (addresses_of fs)) 64 (roomy-cards (leb (length (addresses_of fs)) 64) (any_twice (addresses_of fs)) fs fs _ _ (room file fs b e));
+      apart = roomy-apart (leb (length (addresses_of fs)) 64) (any_twice (addresses_of fs)) fs fs _ _ (room file fs b e);
     }

@@ -16,5 +16,5 @@ module _ (file : List ℕ) (start len : ℕ) where
       take_all (length file - start) (drop start file) (simp length-drop (omega arith))
       ∙ sym (take_all len (drop start file) (simp length-drop (omega arith)))
 
-  pub so-many : take (start + len - start) (drop start file) ≡ take len (drop start file)
-  so-many = let e : start + len - start ≡ len = omega arith in ap (λ (n : ℕ). take n (drop start file)) e
+  pub so_many : take (start + len - start) (drop start file) ≡ take len (drop start file)
+  so_many = let e : start + len - start ≡ len = omega arith in ap (λ (n : ℕ). take n (drop start file)) e

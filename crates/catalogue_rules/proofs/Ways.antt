@@ -9,15 +9,15 @@ use Rattle.refusal.specs.declared.Refusal.{Refusal}
 use Rattle.refusal.specs.declared.Refusal.TheVariants.{NoPlace, ListedTwice}
 use Rattle.catalogue_rules.specs.declared.Place.{Place}
 use Rattle.catalogue_rules.specs.declared.Place.TheVariants.{At, Refused}
-use Rattle.catalogue_rules.specs.Lookup.{whereSound}
+use Rattle.catalogue_rules.specs.Lookup.{where_sound}
 
 -- There is room, or there are more than 64.
 room-if : (b : Bool) (n : ℕ) → leb n 64 ≡ b → not b ≡ ltb 64 n
 room-if true n e = sym (le-ltb 64 n (leb-true n 64 e))
 room-if false n e = sym (lt-ltb 64 n (leb-false n 64 e))
 
-pub is-crowd : (n : ℕ) → not (leb n 64) ≡ ltb 64 n
-is-crowd n = room-if (leb n 64) n refl
+pub is_crowd : (n : ℕ) → not (leb n 64) ≡ ltb 64 n
+is_crowd n = room-if (leb n 64) n refl
 
 both_if : (a b : Bool) → a && b ≡ not (not a || not b)
 both_if true true = refl
@@ -28,25 +28,25 @@ both_if false b = refl
 pub both-room : (n m : ℕ) (t : Bool) → (ltb 64 n || ltb 64 m) ≡ t → (leb n 64 && leb m 64) ≡ not t
 both-room n m t e =
     both_if (leb n 64) (leb m 64)
-    ∙ ap (λ (x : Bool). not (x || not (leb m 64))) (is-crowd n)
-    ∙ ap (λ (x : Bool). not (ltb 64 n || x)) (is-crowd m)
+    ∙ ap (λ (x : Bool). not (x || not (leb m 64))) (is_crowd n)
+    ∙ ap (λ (x : Bool). not (ltb 64 n || x)) (is_crowd m)
     ∙ ap not e
 
 module _ {p : Place} (room twice : Bool) where
-  pub way-none : {why : Refusal} → p ≡ Refused why → Refused why ≡ whereSound room twice p
-  way-none e = sym (ap (whereSound room twice) e)
+  pub way_none : {why : Refusal} → p ≡ Refused why → Refused why ≡ where_sound room twice p
+  way_none e = sym (ap (where_sound room twice) e)
 
   module _ {start len : ℕ} (e : p ≡ At start len) where
-    ways : whereSound room twice p ≡ cond room (cond twice (Refused ListedTwice) (At start len)) (Refused NoPlace)
-    ways = ap (whereSound room twice) e
+    ways : where_sound room twice p ≡ cond room (cond twice (Refused ListedTwice) (At start len)) (Refused NoPlace)
+    ways = ap (where_sound room twice) e
 
-    pub way-crowded : room ≡ false → Refused NoPlace ≡ whereSound room twice p
-    way-crowded r = sym (ways ∙ ap (λ (b : Bool). cond b (cond twice (Refused ListedTwice) (At start len)) (Refused NoPlace)) r)
+    pub way_crowded : room ≡ false → Refused NoPlace ≡ where_sound room twice p
+    way_crowded r = sym (ways ∙ ap (λ (b : Bool). cond b (cond twice (Refused ListedTwice) (At start len)) (Refused NoPlace)) r)
 
-    pub way_twice : room ≡ true → twice ≡ true → Refused ListedTwice ≡ whereSound room twice p
+    pub way_twice : room ≡ true → twice ≡ true → Refused ListedTwice ≡ where_sound room twice p
     way_twice r t =
         sym (ways ∙ ap (λ (b : Bool). cond b (cond twice (Refused ListedTwice) (At start len)) (Refused NoPlace)) r ∙ ap (λ (b : Bool). cond b (Refused ListedTwice) (At start len)) t)
 
-    pub way-found : room ≡ true → twice ≡ false → At start len ≡ whereSound room twice p
-    way-found r t =
+    pub way_found : room ≡ true → twice ≡ false → At start len ≡ where_sound room twice p
+    way_found r t =
         sym (ways ∙ ap (λ (b : Bool). cond b (cond twice (Refused ListedTwice) (At start len)) (Refused NoPlace)) r ∙ ap (λ (b : Bool). cond b (Refused ListedTwice) (At start len)) t)

@@ -8,7 +8,7 @@ use native.Mathlib.Omega.{arith}
 use lib.ListN.{length, get_or, take, drop, length-append}
 use lib.Seq.{take_at, drop_at}
 use Rattle.catalogue_rules.specs.Field.{Field, field, written, bytes_of, number_at, is_whole, first, behind, fields_of, left_of}
-use Rattle.catalogue_rules.proofs.Runs.{is-whole, is_cut, fields-step, left_step, fields-stop, left-stop}
+use Rattle.catalogue_rules.proofs.Runs.{is_whole_lem, is_cut, fields_step, left_step, fields_stop, left_stop}
 use Rattle.catalogue_rules.specs.RoundTrip.{Sizes}
 
 -- One field before any bytes.
@@ -20,30 +20,30 @@ module _ (f : Field) (rest : List ℕ) where
   all = let e : length (f.value ++ rest) ≡ length f.value + length rest = length-append f.value rest in omega arith
 
   whole : is_whole (written f ++ rest) ≡ true
-  whole = is-whole (written f ++ rest) (omega (arith, length-told, all))
+  whole = is_whole_lem (written f ++ rest) (omega (arith, length-told, all))
 
-  first-is : first (written f ++ rest) ≡ f
-  first-is =
+  first_is : first (written f ++ rest) ≡ f
+  first_is =
       ap (λ (n : ℕ). field f.tag (take n (f.value ++ rest))) length-told
       ∙ ap (field f.tag) (take_at f.value rest (length f.value) refl)
 
-  behind-is : behind (written f ++ rest) ≡ rest
-  behind-is =
+  behind_is : behind (written f ++ rest) ≡ rest
+  behind_is =
       let z : 3 + number_at (written f ++ rest) 1 ≡ suc (suc (suc (length f.value))) = omega (arith, length-told) in
       ap (λ (n : ℕ). drop n (written f ++ rest)) z ∙ drop_at f.value rest (length f.value) refl
 
-pub fields-written : (fs : List Field) → Sizes fs → fields_of (bytes_of fs) ≡ fs
+pub fields_written : (fs : List Field) → Sizes fs → fields_of (bytes_of fs) ≡ fs
 unfolding bytes_of Sizes
-fields-written [] s = fields-stop [] (is_cut [] (omega arith))
-fields-written (f ∷ fs) s =
-    fields-step (written f ++ bytes_of fs) (whole f (bytes_of fs))
-    ∙ ap₂ (λ (x : Field) (xs : List Field). x ∷ xs) (first-is f (bytes_of fs)) (ap fields_of (behind-is f (bytes_of fs)) ∙ fields-written fs s.1)
+fields_written [] s = fields_stop [] (is_cut [] (omega arith))
+fields_written (f ∷ fs) s =
+    fields_step (written f ++ bytes_of fs) (whole f (bytes_of fs))
+    ∙ ap₂ (λ (x : Field) (xs : List Field). x ∷ xs) (first_is f (bytes_of fs)) (ap fields_of (behind_is f (bytes_of fs)) ∙ fields_written fs s.1)
 
 pub left-written : (fs : List Field) → Sizes fs → left_of (bytes_of fs) ≡ []
 unfolding bytes_of Sizes
-left-written [] s = left-stop [] (is_cut [] (omega arith))
+left-written [] s = left_stop [] (is_cut [] (omega arith))
 left-written (f ∷ fs) s =
-    left_step (written f ++ bytes_of fs) (whole f (bytes_of fs)) ∙ ap left_of (behind-is f (bytes_of fs)) ∙ left-written fs s.1
+    left_step (written f ++ bytes_of fs) (whole f (bytes_of fs)) ∙ ap left_of (behind_is f (bytes_of fs)) ∙ left-written fs s.1
 
 pub sizes-append : (fs gs : List Field) → Sizes fs → Sizes gs → Sizes (fs ++ gs)
 unfolding Sizes

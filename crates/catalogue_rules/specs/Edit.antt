@@ -8,12 +8,12 @@ use Rattle.refusal.specs.declared.Refusal.TheVariants.{LengthOutside, ArgumentOu
 use Rattle.refusal.specs.Number.{number_of}
 use Rattle.image_rules.specs.declared.Checked.{Checked}
 use Rattle.image_rules.specs.declared.Checked.TheVariants.{Sound, Refused}
-use Rattle.image_rules.specs.Image.{checkOf}
+use Rattle.image_rules.specs.Image.{check_of}
 use Rattle.catalogue_rules.specs.Field.{Field, field}
 use Rattle.catalogue_rules.specs.Turns.{address_of}
-use Rattle.catalogue_rules.specs.Reading.{Reading, catalogue, refused, parsed, read, hasRoom, addressesOf, isAmong, anyTwice, fileOf}
-use Rattle.catalogue_rules.specs.Cards.{Version, versionsFrom, versionsAt}
-use Rattle.catalogue_rules.specs.Archive.{addressIn, movedIn, movedOut, addressesIn}
+use Rattle.catalogue_rules.specs.Reading.{Reading, catalogue, refused, parsed, read, has_room, addresses_of, is_among, any_twice, file_of}
+use Rattle.catalogue_rules.specs.Cards.{Version, versions_from, versions_at}
+use Rattle.catalogue_rules.specs.Archive.{address_in, moved_in, moved_out, addresses_in}
 
 -- The bytes to be written, or a refusal.
 pub data Change : Type 0 where
@@ -26,82 +26,82 @@ or_else true why rest = no why
 or_else false why rest = rest
 
 -- The two fields of a version.
-abbrev pub versionFields : ℕ → List ℕ → List Field
-versionFields n image = field 2 (n % 256 ∷ n / 256 ∷ []) ∷ field 3 image ∷ []
+abbrev pub version_fields : ℕ → List ℕ → List Field
+version_fields n image = field 2 (n % 256 ∷ n / 256 ∷ []) ∷ field 3 image ∷ []
 
-abbrev pub isCard : ℕ → Field → Bool
-isCard a f = eqb f.tag 1 && eqb (address_of f.value) a
+abbrev pub is_card : ℕ → Field → Bool
+is_card a f = eqb f.tag 1 && eqb (address_of f.value) a
 
 -- Before the next card, or at the end.
-unfoldable pub atCardsEnd : List Field → List Field → List Field
-atCardsEnd new [] = new
-atCardsEnd new (f ∷ fs) = cond (eqb f.tag 1) (new ++ (f ∷ fs)) (f ∷ atCardsEnd new fs)
+unfoldable pub at_cards_end : List Field → List Field → List Field
+at_cards_end new [] = new
+at_cards_end new (f ∷ fs) = cond (eqb f.tag 1) (new ++ (f ∷ fs)) (f ∷ at_cards_end new fs)
 
-unfoldable pub withVersion : ℕ → List Field → List Field → List Field
-withVersion a new [] = []
-withVersion a new (f ∷ fs) = cond (isCard a f) (f ∷ atCardsEnd new fs) (f ∷ withVersion a new fs)
+unfoldable pub with_version : ℕ → List Field → List Field → List Field
+with_version a new [] = []
+with_version a new (f ∷ fs) = cond (is_card a f) (f ∷ at_cards_end new fs) (f ∷ with_version a new fs)
 
 -- The latest number; 0 where there is none.
-unfoldable pub latestNumber : List Version → ℕ
-latestNumber [] = 0
-latestNumber (v ∷ []) = v.number
-latestNumber (v ∷ w ∷ vs) = latestNumber (w ∷ vs)
+unfoldable pub latest_number : List Version → ℕ
+latest_number [] = 0
+latest_number (v ∷ []) = v.number
+latest_number (v ∷ w ∷ vs) = latest_number (w ∷ vs)
 
 -- 8 to 10 for an unsound image.
-abbrev pub ifSound : Checked → Change → Change
-ifSound (Sound node0 node1 node2) change = change
-ifSound (Refused why) change = no why
+abbrev pub if_sound : Checked → Change → Change
+if_sound (Sound node0 node1 node2) change = change
+if_sound (Refused why) change = no why
 
 -- The address of an image's card, as a number.
 abbrev pub whose : List ℕ → ℕ
-whose image = address_of (addressIn image)
+whose image = address_of (address_in image)
 
 -- No room for a version: the card has eight, or its latest number plus 1 or the count of fields goes into no two bytes.
-abbrev pub noVersion : ℕ → List Field → Bool
-noVersion a fs = leb 8 (length (versionsAt a fs)) || (leb 65535 (latestNumber (versionsAt a fs)) || ltb 65533 (length fs))
+abbrev pub no_version : ℕ → List Field → Bool
+no_version a fs = leb 8 (length (versions_at a fs)) || (leb 65535 (latest_number (versions_at a fs)) || ltb 65533 (length fs))
 
 -- No room for a card: 64 are there, or the count of fields goes into no two bytes.
-abbrev pub noCard : List Field → Bool
-noCard fs = leb 64 (length (addressesOf fs)) || ltb 65532 (length fs)
+abbrev pub no_card : List Field → Bool
+no_card fs = leb 64 (length (addresses_of fs)) || ltb 65532 (length fs)
 
 -- No room in a catalogue for a version of the card at an address.
-abbrev pub noPlace : ℕ → List Field → Bool
-noPlace a fs = cond (isAmong a (addressesOf fs)) (noVersion a fs) (noCard fs)
+abbrev pub no_place : ℕ → List Field → Bool
+no_place a fs = cond (is_among a (addresses_of fs)) (no_version a fs) (no_card fs)
 
 -- A card that is there gets its latest number plus 1; another begins with 1.
-unfoldable pub withAdded : List ℕ → List Field → List Field
-withAdded image fs =
-    cond (isAmong (whose image) (addressesOf fs))
-    (withVersion (whose image) (versionFields (latestNumber (versionsAt (whose image) fs) + 1) image) fs)
-    (fs ++ (field 1 (addressIn image) ∷ versionFields 1 image))
+unfoldable pub with_added : List ℕ → List Field → List Field
+with_added image fs =
+    cond (is_among (whose image) (addresses_of fs))
+    (with_version (whose image) (version_fields (latest_number (versions_at (whose image) fs) + 1) image) fs)
+    (fs ++ (field 1 (address_in image) ∷ version_fields 1 image))
 
 -- 18 of the file or of the addition, 19, then 8 to 10.
-unfoldable pub addedTo : List ℕ → List Field → Change
-addedTo image fs =
-    or_else (not (hasRoom fs) || noPlace (whose image) fs) NoPlace
-    (or_else (anyTwice (addressesOf fs)) ListedTwice
-    (ifSound (checkOf image)
-    (bytes (fileOf (withAdded image fs)))))
+unfoldable pub added_to : List ℕ → List Field → Change
+added_to image fs =
+    or_else (not (has_room fs) || no_place (whose image) fs) NoPlace
+    (or_else (any_twice (addresses_of fs)) ListedTwice
+    (if_sound (check_of image)
+    (bytes (file_of (with_added image fs)))))
 
-abbrev pub onCatalogue : Reading → (List Field → Change) → Change
-onCatalogue (catalogue fs) f = f fs
-onCatalogue (refused why) f = no why
+abbrev pub on_catalogue : Reading → (List Field → Change) → Change
+on_catalogue (catalogue fs) f = f fs
+on_catalogue (refused why) f = no why
 
 -- 12 for an area with fewer than 145 bytes more than the file: a card's first version takes as many. Then 2, 15, 16.
 unfoldable pub added : ℕ → List ℕ → List ℕ → Change
 added area file image =
     or_else (ltb area (length file + 145)) ArgumentOutside
     (or_else (not (eqb (length image) 128)) LengthOutside
-    (onCatalogue (parsed file) (addedTo image)))
+    (on_catalogue (parsed file) (added_to image)))
 
 -- Without the first image; without the first number and its image.
-unfoldable pub withoutImage : List Field → List Field
-withoutImage [] = []
-withoutImage (f ∷ fs) = cond (eqb f.tag 3) fs (f ∷ withoutImage fs)
+unfoldable pub without_image : List Field → List Field
+without_image [] = []
+without_image (f ∷ fs) = cond (eqb f.tag 3) fs (f ∷ without_image fs)
 
-unfoldable pub withoutOldest : List Field → List Field
-withoutOldest [] = []
-withoutOldest (f ∷ fs) = cond (eqb f.tag 2) (withoutImage fs) (f ∷ withoutOldest fs)
+unfoldable pub without_oldest : List Field → List Field
+without_oldest [] = []
+without_oldest (f ∷ fs) = cond (eqb f.tag 2) (without_image fs) (f ∷ without_oldest fs)
 
 -- A card leaves with its last version: its address goes too.
 abbrev pub leaves : List Version → Bool
@@ -109,46 +109,46 @@ leaves [] = true
 leaves (v ∷ []) = true
 leaves (v ∷ w ∷ vs) = false
 
-unfoldable pub withoutVersion : ℕ → List Field → List Field
-withoutVersion a [] = []
-withoutVersion a (f ∷ fs) =
-    cond (isCard a f) (cond (leaves (versionsFrom 0 fs)) (withoutOldest fs) (f ∷ withoutOldest fs)) (f ∷ withoutVersion a fs)
+unfoldable pub without_version : ℕ → List Field → List Field
+without_version a [] = []
+without_version a (f ∷ fs) =
+    cond (is_card a f) (cond (leaves (versions_from 0 fs)) (without_oldest fs) (f ∷ without_oldest fs)) (f ∷ without_version a fs)
 
 -- 17, then the file's own 18 and 19.
-unfoldable pub droppedFrom : ℕ → List Field → Change
-droppedFrom a fs =
-    or_else (not (isAmong a (addressesOf fs))) NoSuchCard
-    (or_else (not (hasRoom fs)) NoPlace
-    (or_else (anyTwice (addressesOf fs)) ListedTwice
-    (bytes (fileOf (withoutVersion a fs)))))
+unfoldable pub dropped_from : ℕ → List Field → Change
+dropped_from a fs =
+    or_else (not (is_among a (addresses_of fs))) NoSuchCard
+    (or_else (not (has_room fs)) NoPlace
+    (or_else (any_twice (addresses_of fs)) ListedTwice
+    (bytes (file_of (without_version a fs)))))
 
 -- 12 for an area shorter than the file. Then 15, 16.
 unfoldable pub dropped : ℕ → List ℕ → ℕ → Change
-dropped area file a = or_else (ltb area (length file)) ArgumentOutside (onCatalogue (parsed file) (droppedFrom a))
+dropped area file a = or_else (ltb area (length file)) ArgumentOutside (on_catalogue (parsed file) (dropped_from a))
 
 -- The images of an archive.
-unfoldable pub imagesWithin : ℕ → List ℕ → List (List ℕ)
-imagesWithin zero row = []
-imagesWithin (suc n) row = take 128 row ∷ imagesWithin n (drop 128 row)
+unfoldable pub images_within : ℕ → List ℕ → List (List ℕ)
+images_within zero row = []
+images_within (suc n) row = take 128 row ∷ images_within n (drop 128 row)
 
-unfoldable pub imagesIn : List ℕ → List (List ℕ)
-imagesIn row = imagesWithin (length row / 128) row
+unfoldable pub images_in : List ℕ → List (List ℕ)
+images_in row = images_within (length row / 128) row
 
 -- One of the images answers this refusal.
-abbrev pub isFor : Refusal → Checked → Bool
-isFor why (Sound node0 node1 node2) = false
-isFor why (Refused other) = eqb (number_of other) (number_of why)
+abbrev pub is_for : Refusal → Checked → Bool
+is_for why (Sound node0 node1 node2) = false
+is_for why (Refused other) = eqb (number_of other) (number_of why)
 
-unfoldable pub anyFor : Refusal → List (List ℕ) → Bool
-anyFor why [] = false
-anyFor why (image ∷ images) = isFor why (checkOf image) || anyFor why images
+unfoldable pub any_for : Refusal → List (List ℕ) → Bool
+any_for why [] = false
+any_for why (image ∷ images) = is_for why (check_of image) || any_for why images
 
 -- 8, 9, 10: the table's order wins over that of the images.
-unfoldable pub allSound : List (List ℕ) → Change → Change
-allSound images change =
-    or_else (anyFor MakerWrong images) MakerWrong
-    (or_else (anyFor ChecksumWrong images) ChecksumWrong
-    (or_else (anyFor SecondaryWrong images) SecondaryWrong change))
+unfoldable pub all_sound : List (List ℕ) → Change → Change
+all_sound images change =
+    or_else (any_for MakerWrong images) MakerWrong
+    (or_else (any_for ChecksumWrong images) ChecksumWrong
+    (or_else (any_for SecondaryWrong images) SecondaryWrong change))
 
 -- 12 for an area too short for so many images; 2 where a piece of another length is left; then 18, 19, 8 to 10.
 unfoldable pub imported : ℕ → List ℕ → Change
@@ -156,9 +156,9 @@ imported area row =
     or_else (ltb area (145 * (length row / 128) + 5)) ArgumentOutside
     (or_else (not (eqb (length row % 128) 0)) LengthOutside
     (or_else (ltb 64 (length row / 128)) NoPlace
-    (or_else (anyTwice (addressesIn (imagesIn row))) ListedTwice
-    (allSound (imagesIn row) (bytes (fileOf (movedIn (imagesIn row))))))))
+    (or_else (any_twice (addresses_in (images_in row))) ListedTwice
+    (all_sound (images_in row) (bytes (file_of (moved_in (images_in row))))))))
 
 -- 12 for an area under 8,192 bytes, the images of 64 cards. Then 15, 16, 18, 19.
 unfoldable pub exported : ℕ → List ℕ → Change
-exported area file = or_else (ltb area 8192) ArgumentOutside (onCatalogue (read file) (λ fs. bytes (movedOut fs)))
+exported area file = or_else (ltb area 8192) ArgumentOutside (on_catalogue (read file) (λ fs. bytes (moved_out fs)))

@@ -40,25 +40,25 @@ abbrev pub behind : List ℕ → List ℕ
 behind bytes = drop (3 + number_at bytes 1) bytes
 
 -- The whole fields that the bytes begin with. Each takes three bytes or more, so that the length bounds their number.
-unfoldable pub fieldsWithin : ℕ → List ℕ → List Field
-fieldsWithin zero bytes = []
-fieldsWithin (suc more) bytes = cond (is_whole bytes) (first bytes ∷ fieldsWithin more (behind bytes)) []
+unfoldable pub fields_within : ℕ → List ℕ → List Field
+fields_within zero bytes = []
+fields_within (suc more) bytes = cond (is_whole bytes) (first bytes ∷ fields_within more (behind bytes)) []
 
 unfoldable pub fields_of : List ℕ → List Field
-fields_of bytes = fieldsWithin (length bytes) bytes
+fields_of bytes = fields_within (length bytes) bytes
 
 -- The bytes that are left behind the whole fields.
-unfoldable pub leftWithin : ℕ → List ℕ → List ℕ
-leftWithin zero bytes = bytes
-leftWithin (suc more) bytes = cond (is_whole bytes) (leftWithin more (behind bytes)) bytes
+unfoldable pub left_within : ℕ → List ℕ → List ℕ
+left_within zero bytes = bytes
+left_within (suc more) bytes = cond (is_whole bytes) (left_within more (behind bytes)) bytes
 
 unfoldable pub left_of : List ℕ → List ℕ
-left_of bytes = leftWithin (length bytes) bytes
+left_of bytes = left_within (length bytes) bytes
 
 -- What stands at a place of a file: a whole field, with the place and the length of its value, or none.
-abbrev pub foundIf : Bool → List ℕ → ℕ → Found
-foundIf true bytes at = Whole (get_or bytes 0 0) (at + 3) (number_at bytes 1)
-foundIf false bytes at = Cut
+abbrev pub found_if : Bool → List ℕ → ℕ → Found
+found_if true bytes at = Whole (get_or bytes 0 0) (at + 3) (number_at bytes 1)
+found_if false bytes at = Cut
 
 abbrev pub found_at : List ℕ → ℕ → Found
-found_at file at = foundIf (is_whole (drop at file)) (drop at file) at
+found_at file at = found_if (is_whole (drop at file)) (drop at file) at

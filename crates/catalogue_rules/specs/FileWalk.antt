@@ -13,15 +13,15 @@ abbrev pub rising : ℕ → ℕ → ℕ → Turn
 rising nth last number = cond (ltb nth 8 && ltb last number) (Numbered (nth + 1) number) Damaged
 
 -- Behind so many cards and fields.
-abbrev pub behindSo : ℕ → ℕ → Judged → Judged
-behindSo cards n (Sound c m) = Sound (cards + c) (n + m)
-behindSo cards n (Refused why) = Refused why
+abbrev pub behind_so : ℕ → ℕ → Judged → Judged
+behind_so cards n (Sound c m) = Sound (cards + c) (n + m)
+behind_so cards n (Refused why) = Refused why
 
 -- The count as the last field.
 unfoldable pub closes : Turn → ℕ → ℕ → Field → List ℕ → Judged
 closes turn n cards f rest =
-    behindSo cards n (judged (cond (ends turn n f (is_last (fields_of rest) (left_of rest))) (catalogue []) (refused FieldDamaged)))
+    behind_so cards n (judged (cond (ends turn n f (is_last (fields_of rest) (left_of rest))) (catalogue []) (refused FieldDamaged)))
 
-abbrev pub oneIf : Bool → ℕ
-oneIf true = 1
-oneIf false = 0
+abbrev pub one_if : Bool → ℕ
+one_if true = 1
+one_if false = 0

@@ -6,7 +6,7 @@ use Rattle.refusal.specs.declared.Refusal.{Refusal}
 use Rattle.refusal.specs.declared.Refusal.TheVariants.{NoSuchCard, NoPlace, ListedTwice}
 use Rattle.catalogue_rules.specs.Field.{Field, size_of, number_at}
 use Rattle.catalogue_rules.specs.Turns.{address_of}
-use Rattle.catalogue_rules.specs.Reading.{Reading, catalogue, refused, hasRoom, addressesOf, isAmong, anyTwice}
+use Rattle.catalogue_rules.specs.Reading.{Reading, catalogue, refused, has_room, addresses_of, is_among, any_twice}
 use Rattle.catalogue_rules.specs.declared.Place.{Place}
 use Rattle.catalogue_rules.specs.declared.Place.TheVariants.{At, Refused}
 use Rattle.catalogue_rules.specs.declared.Hit.{Hit}
@@ -21,82 +21,82 @@ pub record Spot : Type 0 where
 abbrev pub spot : ℕ → ℕ → ℕ → Spot
 spot n s k = record { number = n; start = s; size = k }
 
--- The versions up to the next card, of fields that begin at a place: as `versionsFrom` has them, with places for images.
-unfoldable pub spotsFrom : ℕ → ℕ → List Field → List Spot
-spotsFrom at n [] = []
-spotsFrom at n (f ∷ fs) =
+-- The versions up to the next card, of fields that begin at a place: as `versions_from` has them, with places for images.
+unfoldable pub spots_from : ℕ → ℕ → List Field → List Spot
+spots_from at n [] = []
+spots_from at n (f ∷ fs) =
     cond (eqb f.tag 1) []
-    (cond (eqb f.tag 2) (spotsFrom (at + size_of f) (number_at f.value 0) fs)
-    (cond (eqb f.tag 3) (spot n (at + 3) (length f.value) ∷ spotsFrom (at + size_of f) n fs)
-    (spotsFrom (at + size_of f) n fs)))
+    (cond (eqb f.tag 2) (spots_from (at + size_of f) (number_at f.value 0) fs)
+    (cond (eqb f.tag 3) (spot n (at + 3) (length f.value) ∷ spots_from (at + size_of f) n fs)
+    (spots_from (at + size_of f) n fs)))
 
 -- The versions of the card at an address; none where there is no such card. The first listing counts.
-unfoldable pub spotsAt : ℕ → ℕ → List Field → List Spot
-spotsAt a at [] = []
-spotsAt a at (f ∷ fs) =
-    cond (eqb f.tag 1 && eqb (address_of f.value) a) (spotsFrom (at + size_of f) 0 fs) (spotsAt a (at + size_of f) fs)
+unfoldable pub spots_at : ℕ → ℕ → List Field → List Spot
+spots_at a at [] = []
+spots_at a at (f ∷ fs) =
+    cond (eqb f.tag 1 && eqb (address_of f.value) a) (spots_from (at + size_of f) 0 fs) (spots_at a (at + size_of f) fs)
 
 -- The place of the last version's image, else what is given.
-unfoldable pub lastSpot : Place → List Spot → Place
-lastSpot p [] = p
-lastSpot p (s ∷ ss) = lastSpot (At s.start s.size) ss
+unfoldable pub last_spot : Place → List Spot → Place
+last_spot p [] = p
+last_spot p (s ∷ ss) = last_spot (At s.start s.size) ss
 
 -- The place of the image of the version with the number; 17 where there is none.
-unfoldable pub numberedSpot : ℕ → List Spot → Place
-numberedSpot n [] = Refused NoSuchCard
-numberedSpot n (s ∷ ss) = cond (eqb s.number n) (At s.start s.size) (numberedSpot n ss)
+unfoldable pub numbered_spot : ℕ → List Spot → Place
+numbered_spot n [] = Refused NoSuchCard
+numbered_spot n (s ∷ ss) = cond (eqb s.number n) (At s.start s.size) (numbered_spot n ss)
 
 -- 17 first, where there is no place; then 18 and 19: whether there is room, and whether an address is listed twice.
-abbrev pub whereSound : Bool → Bool → Place → Place
-whereSound room twice (At start len) = cond room (cond twice (Refused ListedTwice) (At start len)) (Refused NoPlace)
-whereSound room twice (Refused why) = Refused why
+abbrev pub where_sound : Bool → Bool → Place → Place
+where_sound room twice (At start len) = cond room (cond twice (Refused ListedTwice) (At start len)) (Refused NoPlace)
+where_sound room twice (Refused why) = Refused why
 
-abbrev pub unlessFaulty : List Field → Place → Place
-unlessFaulty fs p = whereSound (hasRoom fs) (anyTwice (addressesOf fs)) p
+abbrev pub unless_faulty : List Field → Place → Place
+unless_faulty fs p = where_sound (has_room fs) (any_twice (addresses_of fs)) p
 
 -- Latest version of a card; a given version of it. 15, 16, 17, 18, 19, in that order.
-unfoldable pub latestIn : ℕ → Reading → Place
-latestIn a (catalogue fs) = unlessFaulty fs (lastSpot (Refused NoSuchCard) (spotsAt a 0 fs))
-latestIn a (refused why) = Refused why
+unfoldable pub latest_in : ℕ → Reading → Place
+latest_in a (catalogue fs) = unless_faulty fs (last_spot (Refused NoSuchCard) (spots_at a 0 fs))
+latest_in a (refused why) = Refused why
 
-unfoldable pub givenIn : ℕ → ℕ → Reading → Place
-givenIn a n (catalogue fs) = unlessFaulty fs (numberedSpot n (spotsAt a 0 fs))
-givenIn a n (refused why) = Refused why
+unfoldable pub given_in : ℕ → ℕ → Reading → Place
+given_in a n (catalogue fs) = unless_faulty fs (numbered_spot n (spots_at a 0 fs))
+given_in a n (refused why) = Refused why
 
-abbrev pub inOverride : Place → Hit
-inOverride (At start len) = InOverride start len
-inOverride (Refused why) = Nowhere why
+abbrev pub in_override : Place → Hit
+in_override (At start len) = InOverride start len
+in_override (Refused why) = Nowhere why
 
-abbrev pub inMain : Place → Hit
-inMain (At start len) = InMain start len
-inMain (Refused why) = Nowhere why
+abbrev pub in_main : Place → Hit
+in_main (At start len) = InMain start len
+in_main (Refused why) = Nowhere why
 
 -- Out of the main catalogue: its 15 and 16, then 17, then 18 and 19 of either file.
-unfoldable pub elseMain : ℕ → List Field → Reading → Hit
-elseMain a own (catalogue main) =
-    inMain (whereSound (hasRoom own && hasRoom main) (anyTwice (addressesOf own) || anyTwice (addressesOf main)) (lastSpot (Refused NoSuchCard) (spotsAt a 0 main)))
-elseMain a own (refused why) = Nowhere why
+unfoldable pub else_main : ℕ → List Field → Reading → Hit
+else_main a own (catalogue main) =
+    in_main (where_sound (has_room own && has_room main) (any_twice (addresses_of own) || any_twice (addresses_of main)) (last_spot (Refused NoSuchCard) (spots_at a 0 main)))
+else_main a own (refused why) = Nowhere why
 
 -- Out of the override if it has that card, else out of the main one. The override's 15 and 16 come first.
-unfoldable pub lookedUp : ℕ → Reading → Reading → Hit
-lookedUp a (catalogue own) main = cond (isAmong a (addressesOf own)) (inOverride (latestIn a (catalogue own))) (elseMain a own main)
-lookedUp a (refused why) main = Nowhere why
+unfoldable pub looked_up : ℕ → Reading → Reading → Hit
+looked_up a (catalogue own) main = cond (is_among a (addresses_of own)) (in_override (latest_in a (catalogue own))) (else_main a own main)
+looked_up a (refused why) main = Nowhere why
 
 -- An image's bytes, or a refusal: what a place in a file shows.
 pub data Shown : Type 0 where
   image : List ℕ → Shown
   none : Refusal → Shown
 
-abbrev pub shownAt : List ℕ → Place → Shown
-shownAt file (At start len) = image (take len (drop start file))
-shownAt file (Refused why) = none why
+abbrev pub shown_at : List ℕ → Place → Shown
+shown_at file (At start len) = image (take len (drop start file))
+shown_at file (Refused why) = none why
 
-abbrev pub shownIn : List ℕ → List ℕ → Hit → Shown
-shownIn own main (InOverride start len) = image (take len (drop start own))
-shownIn own main (InMain start len) = image (take len (drop start main))
-shownIn own main (Nowhere why) = none why
+abbrev pub shown_in : List ℕ → List ℕ → Hit → Shown
+shown_in own main (InOverride start len) = image (take len (drop start own))
+shown_in own main (InMain start len) = image (take len (drop start main))
+shown_in own main (Nowhere why) = none why
 
 -- The bytes of what is shown; none of a refusal.
-abbrev pub bytesIn : Shown → List ℕ
-bytesIn (image bytes) = bytes
-bytesIn (none why) = []
+abbrev pub bytes_in : Shown → List ℕ
+bytes_in (image bytes) = bytes
+bytes_in (none why) = []

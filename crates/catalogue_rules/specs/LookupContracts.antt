@@ -4,20 +4,20 @@ use Rattle.std.specs.Prelude.{ℕ, ◌≡◌, List, take, drop}
 use Rattle.catalogue_rules.specs.Reading.{parsed}
 use Rattle.catalogue_rules.specs.declared.Place.{Place}
 use Rattle.catalogue_rules.specs.declared.Hit.{Hit}
-use Rattle.catalogue_rules.specs.Lookup.{latestIn, givenIn, lookedUp, shownIn, bytesIn}
+use Rattle.catalogue_rules.specs.Lookup.{latest_in, given_in, looked_up, shown_in, bytes_in}
 
 abbrev pub Latest : List ℕ → ℕ → Place → Type 0
-Latest file a r = r ≡ latestIn a (parsed file)
+Latest file a r = r ≡ latest_in a (parsed file)
 
 abbrev pub Given : List ℕ → ℕ → ℕ → Place → Type 0
-Given file a n r = r ≡ givenIn a n (parsed file)
+Given file a n r = r ≡ given_in a n (parsed file)
 
 abbrev pub LooksUp : List ℕ → List ℕ → ℕ → Hit → Type 0
-LooksUp own main a r = r ≡ lookedUp a (parsed own) (parsed main)
+LooksUp own main a r = r ≡ looked_up a (parsed own) (parsed main)
 
 -- The bytes at a place of a file; those of what was found.
 abbrev pub Part : List ℕ → ℕ → ℕ → List ℕ → Type 0
 Part file start len r = r ≡ take len (drop start file)
 
 abbrev pub ImageOf : List ℕ → List ℕ → Hit → List ℕ → Type 0
-ImageOf own main hit r = r ≡ bytesIn (shownIn own main hit)
+ImageOf own main hit r = r ≡ bytes_in (shown_in own main hit)

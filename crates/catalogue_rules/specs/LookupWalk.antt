@@ -2,15 +2,15 @@
 -- Assumes nothing.
 use Rattle.std.specs.Prelude.{ℕ, ◌&&◌, ◌||◌, List, leb}
 use Rattle.catalogue_rules.specs.Field.{fields_of}
-use Rattle.catalogue_rules.specs.Reading.{addressesOf, anyTwice}
+use Rattle.catalogue_rules.specs.Reading.{addresses_of, any_twice}
 use Rattle.catalogue_rules.specs.declared.Place.{Place}
 use Rattle.catalogue_rules.specs.declared.Hit.{Hit}
-use Rattle.catalogue_rules.specs.Lookup.{whereSound, inMain}
+use Rattle.catalogue_rules.specs.Lookup.{where_sound, in_main}
 
 -- The file's own tests, of a file with so many cards; those of two files at once.
-abbrev pub foundIn : ℕ → List ℕ → Place → Place
-foundIn cards file p = whereSound (leb cards 64) (anyTwice (addressesOf (fields_of file))) p
+abbrev pub found_in : ℕ → List ℕ → Place → Place
+found_in cards file p = where_sound (leb cards 64) (any_twice (addresses_of (fields_of file))) p
 
-abbrev pub mainIn : ℕ → ℕ → List ℕ → List ℕ → Place → Hit
-mainIn cards others own main p =
-    inMain (whereSound (leb cards 64 && leb others 64) (anyTwice (addressesOf (fields_of own)) || anyTwice (addressesOf (fields_of main))) p)
+abbrev pub main_in : ℕ → ℕ → List ℕ → List ℕ → Place → Hit
+main_in cards others own main p =
+    in_main (where_sound (leb cards 64 && leb others 64) (any_twice (addresses_of (fields_of own)) || any_twice (addresses_of (fields_of main))) p)

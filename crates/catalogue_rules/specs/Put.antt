@@ -15,6 +15,6 @@ answer_of (bytes file) = Bytes (length file)
 answer_of (no why) = Refused why
 
 -- The area begins with the new file and is behind it as it came; a refused call changes no byte.
-abbrev pub areaAfter : Change → List ℕ → List ℕ
-areaAfter (bytes file) area = file ++ drop (length file) area
-areaAfter (no why) area = area
+abbrev pub area_after : Change → List ℕ → List ℕ
+area_after (bytes file) area = file ++ drop (length file) area
+area_after (no why) area = area

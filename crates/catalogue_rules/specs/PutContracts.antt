@@ -3,11 +3,11 @@
 use Rattle.std.specs.Prelude.{ℕ, ◌≡◌, List, length}
 use Rattle.catalogue_rules.specs.Edit.{Change, added, dropped, imported, exported}
 use Rattle.catalogue_rules.specs.declared.Written.{Written}
-use Rattle.catalogue_rules.specs.Put.{answer_of, areaAfter}
+use Rattle.catalogue_rules.specs.Put.{answer_of, area_after}
 
 -- The answer and the area after a change.
 abbrev pub Writes : Change → Written → List ℕ → List ℕ → Type 0
-Writes change r area after = (r ≡ answer_of change) × (after ≡ areaAfter change area)
+Writes change r area after = (r ≡ answer_of change) × (after ≡ area_after change area)
 
 abbrev pub Adds : List ℕ → List ℕ → Written → List ℕ → List ℕ → Type 0
 Adds file image r area after = Writes (added (length area) file image) r area after

@@ -9,15 +9,15 @@ use Rattle.catalogue_rules.specs.declared.Turn.{Turn}
 use Rattle.catalogue_rules.specs.declared.Turn.TheVariants.{Begun}
 use Rattle.catalogue_rules.specs.declared.Judged.{Judged}
 use Rattle.catalogue_rules.specs.declared.Judged.TheVariants.{Sound, Refused}
-use Rattle.catalogue_rules.specs.Turns.{address_of, after, mayEnd, isDamaged}
+use Rattle.catalogue_rules.specs.Turns.{address_of, after, may_end, is_damaged}
 
 -- Tag 4, the count of the fields before it (2 bytes), last.
-abbrev pub countField : ℕ → Field
-countField n = field 4 (n % 256 ∷ n / 256 ∷ [])
+abbrev pub count_field : ℕ → Field
+count_field n = field 4 (n % 256 ∷ n / 256 ∷ [])
 
 -- A catalogue's file.
-unfoldable pub fileOf : List Field → List ℕ
-fileOf fs = bytes_of (fs ++ (countField (length fs) ∷ []))
+unfoldable pub file_of : List Field → List ℕ
+file_of fs = bytes_of (fs ++ (count_field (length fs) ∷ []))
 
 -- What a file is read as.
 pub data Reading : Type 0 where
@@ -35,7 +35,7 @@ is_last [] (b ∷ left) = false
 is_last (f ∷ fs) left = false
 
 abbrev pub ends : Turn → ℕ → Field → Bool → Bool
-ends turn n f last = mayEnd turn && (eqb (length f.value) 2 && (eqb (number_at f.value 0) n && last))
+ends turn n f last = may_end turn && (eqb (length f.value) 2 && (eqb (number_at f.value 0) n && last))
 
 -- The fields in their order, behind n fields before them, and what is left when no whole field is.
 -- Damage comes first: a field out of turn, a wrong length, a wrong count, anything behind the count.
@@ -44,20 +44,20 @@ unfoldable pub reading : Turn → ℕ → List Field → List ℕ → Reading
 reading turn n [] left = refused FileEndsEarly
 reading turn n (f ∷ fs) left =
     cond (eqb f.tag 4) (cond (ends turn n f (is_last fs left)) (catalogue []) (refused FieldDamaged))
-    (cond (isDamaged (after turn f)) (refused FieldDamaged) (with f (reading (after turn f) (n + 1) fs left)))
+    (cond (is_damaged (after turn f)) (refused FieldDamaged) (with f (reading (after turn f) (n + 1) fs left)))
 
 -- The addresses of the cards, in their order.
-unfoldable pub addressesOf : List Field → List ℕ
-addressesOf [] = []
-addressesOf (f ∷ fs) = cond (eqb f.tag 1) (address_of f.value ∷ addressesOf fs) (addressesOf fs)
+unfoldable pub addresses_of : List Field → List ℕ
+addresses_of [] = []
+addresses_of (f ∷ fs) = cond (eqb f.tag 1) (address_of f.value ∷ addresses_of fs) (addresses_of fs)
 
-abbrev pub isAmong : ℕ → List ℕ → Bool
-isAmong a [] = false
-isAmong a (b ∷ those) = eqb b a || isAmong a those
+abbrev pub is_among : ℕ → List ℕ → Bool
+is_among a [] = false
+is_among a (b ∷ those) = eqb b a || is_among a those
 
-unfoldable pub anyTwice : List ℕ → Bool
-anyTwice [] = false
-anyTwice (a ∷ those) = isAmong a those || anyTwice those
+unfoldable pub any_twice : List ℕ → Bool
+any_twice [] = false
+any_twice (a ∷ those) = is_among a those || any_twice those
 
 -- The fields of a file in their turns, with a right count behind them; 15 or 16 where they are not.
 -- It may still have too many cards or list one twice: 18 and 19 come behind a call's own 17.
@@ -65,12 +65,12 @@ abbrev pub parsed : List ℕ → Reading
 parsed file = reading Begun 0 (fields_of file) (left_of file)
 
 -- At most 64 cards.
-abbrev pub hasRoom : List Field → Bool
-hasRoom fs = leb (length (addressesOf fs)) 64
+abbrev pub has_room : List Field → Bool
+has_room fs = leb (length (addresses_of fs)) 64
 
 -- 18 for more cards than that, then 19 for an address that is listed twice.
 abbrev pub roomy : Reading → Reading
-roomy (catalogue fs) = cond (hasRoom fs) (cond (anyTwice (addressesOf fs)) (refused ListedTwice) (catalogue fs)) (refused NoPlace)
+roomy (catalogue fs) = cond (has_room fs) (cond (any_twice (addresses_of fs)) (refused ListedTwice) (catalogue fs)) (refused NoPlace)
 roomy (refused why) = refused why
 
 -- A file, read: a sound one.
@@ -79,5 +79,5 @@ read file = roomy (parsed file)
 
 -- What the check of a file answers: how many cards and fields, or the refusal.
 abbrev pub judged : Reading → Judged
-judged (catalogue fs) = Sound (length (addressesOf fs)) (length fs)
+judged (catalogue fs) = Sound (length (addresses_of fs)) (length fs)
 judged (refused why) = Refused why

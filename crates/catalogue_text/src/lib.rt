@@ -131,7 +131,7 @@ pub fn print_hex(fd: i32, number: u64, width: usize) -> bool
     let mut at = 12;
     while 0 < at {
         at = at - 1;
-        digits[at] = hex::digit((left % 16) as u16);
+        digits[at] = hex_text::digit((left % 16) as u16);
         left = left / 16;
     }
     let first = 12 - width;

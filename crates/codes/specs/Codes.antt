@@ -28,7 +28,7 @@ use Rattle.driver_rules.specs.declared.Sent.{Sent}
 use Rattle.driver_rules.specs.declared.Answer.{Answer}
 use Rattle.driver_rules.specs.declared.Answer.TheVariants as serving
 use Rattle.driver_rules.specs.declared.Serviced.{Serviced}
-use Rattle.driver_rules.specs.HandUp.{area as areaOf}
+use Rattle.driver_rules.specs.HandUp.{area as area_of}
 use Rattle.codes.specs.declared.cards.CardDone.{CardDone}
 use Rattle.codes.specs.declared.cards.CardLine.{CardLine}
 use Rattle.codes.specs.declared.cards.CardRead.{CardRead}
@@ -45,118 +45,118 @@ use Rattle.codes.specs.declared.images.ImageChecked.{ImageChecked}
 
 -- ---- the card
 
-abbrev pub doneCode : Done → ℕ
-doneCode finished.Done = 0
-doneCode (finished.Refused why) = number_of why
+abbrev pub done_code : Done → ℕ
+done_code finished.Done = 0
+done_code (finished.Refused why) = number_of why
 
-abbrev pub codedDone : AfterCall → CardDone
-codedDone x = record { card = x.card; code = doneCode x.answer }
+abbrev pub coded_done : AfterCall → CardDone
+coded_done x = record { card = x.card; code = done_code x.answer }
 
 abbrev pub read_code : Read → ℕ
 read_code (read.Value v) = 0
 read_code (read.Refused why) = number_of why
 
-abbrev pub readValue : Read → ℕ
-readValue (read.Value v) = v
-readValue (read.Refused why) = 0
+abbrev pub read_value : Read → ℕ
+read_value (read.Value v) = v
+read_value (read.Refused why) = 0
 
-abbrev pub codedRead : AfterRead → CardRead
-codedRead x = record { card = x.card; value = readValue x.answer; code = read_code x.answer }
+abbrev pub coded_read : AfterRead → CardRead
+coded_read x = record { card = x.card; value = read_value x.answer; code = read_code x.answer }
 
-abbrev pub toldCode : Told → ℕ
-toldCode (told.Told n) = 0
-toldCode (told.Refused why) = number_of why
+abbrev pub told_code : Told → ℕ
+told_code (told.Told n) = 0
+told_code (told.Refused why) = number_of why
 
-abbrev pub toldCount : Told → ℕ
-toldCount (told.Told n) = n
-toldCount (told.Refused why) = 0
+abbrev pub told_count : Told → ℕ
+told_count (told.Told n) = n
+told_count (told.Refused why) = 0
 
-abbrev pub codedTold : AfterSuccess → CardTold
-codedTold x = record { card = x.card; n = toldCount x.answer; code = toldCode x.answer }
+abbrev pub coded_told : AfterSuccess → CardTold
+coded_told x = record { card = x.card; n = told_count x.answer; code = told_code x.answer }
 
-abbrev pub codedLine : Read → CardLine
-codedLine x = record { line = readValue x; code = read_code x }
+abbrev pub coded_line : Read → CardLine
+coded_line x = record { line = read_value x; code = read_code x }
 
-abbrev pub rxCode : RxStatus → ℕ
-rxCode (rx.Shows word unread) = 0
-rxCode (rx.Refused why) = number_of why
+abbrev pub rx_code : RxStatus → ℕ
+rx_code (rx.Shows word unread) = 0
+rx_code (rx.Refused why) = number_of why
 
-abbrev pub rxWordOf : RxStatus → ℕ
-rxWordOf (rx.Shows word unread) = word
-rxWordOf (rx.Refused why) = 0
+abbrev pub rx_word_of : RxStatus → ℕ
+rx_word_of (rx.Shows word unread) = word
+rx_word_of (rx.Refused why) = 0
 
-abbrev pub rxUnreadOf : RxStatus → ℤ
-rxUnreadOf (rx.Shows word unread) = unread
-rxUnreadOf (rx.Refused why) = pos 0
+abbrev pub rx_unread_of : RxStatus → ℤ
+rx_unread_of (rx.Shows word unread) = unread
+rx_unread_of (rx.Refused why) = pos 0
 
-abbrev pub codedRxStatus : RxStatus → CardRxStatus
-codedRxStatus x = record { word = rxWordOf x; unread = rxUnreadOf x; code = rxCode x }
+abbrev pub coded_rx_status : RxStatus → CardRxStatus
+coded_rx_status x = record { word = rx_word_of x; unread = rx_unread_of x; code = rx_code x }
 
 -- ---- several cards on one ID port
 
-abbrev pub foundCode : Found → ℕ
-foundCode (Found.Refused why) = number_of why
-foundCode (Found.Cards count accesses) = 0
+abbrev pub found_code : Found → ℕ
+found_code (Found.Refused why) = number_of why
+found_code (Found.Cards count accesses) = 0
 
-abbrev pub foundCount : Found → ℕ
-foundCount (Found.Refused why) = 0
-foundCount (Found.Cards count accesses) = count
+abbrev pub found_count : Found → ℕ
+found_count (Found.Refused why) = 0
+found_count (Found.Cards count accesses) = count
 
-abbrev pub foundAccesses : Found → ℕ
-foundAccesses (Found.Refused why) = 0
-foundAccesses (Found.Cards count accesses) = accesses
+abbrev pub found_accesses : Found → ℕ
+found_accesses (Found.Refused why) = 0
+found_accesses (Found.Cards count accesses) = accesses
 
-abbrev pub codedFound : AfterSearch → BusFound
-codedFound x = record { bus = x.bus; addresses = x.addresses; count = foundCount x.answer; accesses = foundAccesses x.answer; code = foundCode x.answer }
+abbrev pub coded_found : AfterSearch → BusFound
+coded_found x = record { bus = x.bus; addresses = x.addresses; count = found_count x.answer; accesses = found_accesses x.answer; code = found_code x.answer }
 
-abbrev pub activatedCode : Activation → ℕ
-activatedCode (Activation.Refused why) = number_of why
-activatedCode (Activation.Done accesses) = 0
+abbrev pub activated_code : Activation → ℕ
+activated_code (Activation.Refused why) = number_of why
+activated_code (Activation.Done accesses) = 0
 
-abbrev pub activatedAccesses : Activation → ℕ
-activatedAccesses (Activation.Refused why) = 0
-activatedAccesses (Activation.Done accesses) = accesses
+abbrev pub activated_accesses : Activation → ℕ
+activated_accesses (Activation.Refused why) = 0
+activated_accesses (Activation.Done accesses) = accesses
 
-abbrev pub codedActivated : AfterActivation → BusDone
-codedActivated x = record { bus = x.bus; accesses = activatedAccesses x.answer; code = activatedCode x.answer }
+abbrev pub coded_activated : AfterActivation → BusDone
+coded_activated x = record { bus = x.bus; accesses = activated_accesses x.answer; code = activated_code x.answer }
 
 -- ---- the driver
 
-abbrev pub openCode : OpenAnswer → ℕ
-openCode opening.Done = 0
-openCode (opening.Refused why) = number_of why
+abbrev pub open_code : OpenAnswer → ℕ
+open_code opening.Done = 0
+open_code (opening.Refused why) = number_of why
 
-abbrev pub codedOpened : Opened → DriverDone
-codedOpened x = record { card = x.card; driver = x.driver; code = openCode x.answer }
+abbrev pub coded_opened : Opened → DriverDone
+coded_opened x = record { card = x.card; driver = x.driver; code = open_code x.answer }
 
-abbrev pub sendCode : SendAnswer → ℕ
-sendCode (sending.Ticket t) = 0
-sendCode (sending.Refused why) = number_of why
+abbrev pub send_code : SendAnswer → ℕ
+send_code (sending.Ticket t) = 0
+send_code (sending.Refused why) = number_of why
 
-abbrev pub sendTicket : SendAnswer → ℕ
-sendTicket (sending.Ticket t) = t
-sendTicket (sending.Refused why) = 0
+abbrev pub send_ticket : SendAnswer → ℕ
+send_ticket (sending.Ticket t) = t
+send_ticket (sending.Refused why) = 0
 
-abbrev pub codedSent : Sent → DriverSent
-codedSent x = record { card = x.card; driver = x.driver; ticket = sendTicket x.answer; code = sendCode x.answer }
+abbrev pub coded_sent : Sent → DriverSent
+coded_sent x = record { card = x.card; driver = x.driver; ticket = send_ticket x.answer; code = send_code x.answer }
 
 -- A kind: 0 refused, 1 a report, 2 a status alone, 3 a frame, 4 idle.
-abbrev pub serviceTold : Answer → Service
-serviceTold (serving.Reported t s) = record { kind = 1; code = 0; ticket = t; status = s; n = 0 }
-serviceTold (serving.Status s) = record { kind = 2; code = 0; ticket = 0; status = s; n = 0 }
-serviceTold (serving.Frame n) = record { kind = 3; code = 0; ticket = 0; status = 0; n = n }
-serviceTold serving.Idle = record { kind = 4; code = 0; ticket = 0; status = 0; n = 0 }
-serviceTold (serving.Refused why) = record { kind = 0; code = number_of why; ticket = 0; status = 0; n = 0 }
+abbrev pub service_told : Answer → Service
+service_told (serving.Reported t s) = record { kind = 1; code = 0; ticket = t; status = s; n = 0 }
+service_told (serving.Status s) = record { kind = 2; code = 0; ticket = 0; status = s; n = 0 }
+service_told (serving.Frame n) = record { kind = 3; code = 0; ticket = 0; status = 0; n = n }
+service_told serving.Idle = record { kind = 4; code = 0; ticket = 0; status = 0; n = 0 }
+service_told (serving.Refused why) = record { kind = 0; code = number_of why; ticket = 0; status = 0; n = 0 }
 
-abbrev pub codedServed : Serviced → DriverServed
-codedServed x = record { card = x.card; driver = x.driver; answer = serviceTold x.answer; accesses = x.used }
+abbrev pub coded_served : Serviced → DriverServed
+coded_served x = record { card = x.card; driver = x.driver; answer = service_told x.answer; accesses = x.used }
 
 -- The part that a frame of n bytes is handed up in: 1 the lookahead area or 2 the frame area, and its length.
-abbrev pub codedPart : ℕ → ℕ → HandedUp
-codedPart n len = record { area = areaOf n 1 2; n = len }
+abbrev pub coded_part : ℕ → ℕ → HandedUp
+coded_part n len = record { area = area_of n 1 2; n = len }
 
 -- ---- the image check
 
-abbrev pub codedCheck : Checked → ImageChecked
-codedCheck (checked.Sound a b c) = record { node0 = a; node1 = b; node2 = c; code = 0 }
-codedCheck (checked.Refused why) = record { node0 = 0; node1 = 0; node2 = 0; code = number_of why }
+abbrev pub coded_check : Checked → ImageChecked
+coded_check (checked.Sound a b c) = record { node0 = a; node1 = b; node2 = c; code = 0 }
+coded_check (checked.Refused why) = record { node0 = 0; node1 = 0; node2 = 0; code = number_of why }

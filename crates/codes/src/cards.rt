@@ -1,6 +1,6 @@
 // The card's answers in numbers.
 ghost use Rattle.std.specs.Prelude.{◌≡◌};
-ghost use Rattle.codes.specs.Codes.{doneCode, read_code, readValue, toldCode, toldCount, codedDone, codedRead, codedTold, codedLine, rxCode, rxWordOf, rxUnreadOf, codedRxStatus};
+ghost use Rattle.codes.specs.Codes.{done_code, read_code, read_value, told_code, told_count, coded_done, coded_read, coded_told, coded_line, rx_code, rx_word_of, rx_unread_of, coded_rx_status};
 
 use card_rules::{AfterCall, AfterRead, AfterSuccess, Card, Done, Read, RxStatus, Told};
 
@@ -48,7 +48,7 @@ pub struct CardRxStatus {
 }
 
 fn done_code(a: Done) -> u8
-    ensures { result ≡ doneCode a }
+    ensures { result ≡ done_code a }
 {
     match a {
         Done::Done => 0,
@@ -66,7 +66,7 @@ fn read_code(a: Read) -> u8
 }
 
 fn read_value(a: Read) -> u16
-    ensures { result ≡ readValue a }
+    ensures { result ≡ read_value a }
 {
     match a {
         Read::Value(v) => v,
@@ -75,7 +75,7 @@ fn read_value(a: Read) -> u16
 }
 
 fn told_code(a: Told) -> u8
-    ensures { result ≡ toldCode a }
+    ensures { result ≡ told_code a }
 {
     match a {
         Told::Told(_) => 0,
@@ -84,7 +84,7 @@ fn told_code(a: Told) -> u8
 }
 
 fn told_count(a: Told) -> usize
-    ensures { result ≡ toldCount a }
+    ensures { result ≡ told_count a }
 {
     match a {
         Told::Told(n) => n,
@@ -93,7 +93,7 @@ fn told_count(a: Told) -> usize
 }
 
 pub fn coded_done(x: AfterCall) -> CardDone
-    ensures { result ≡ codedDone x }
+    ensures { result ≡ coded_done x }
 {
     let card = x.card;
     let answer = x.answer;
@@ -105,7 +105,7 @@ pub fn coded_done(x: AfterCall) -> CardDone
 }
 
 pub fn coded_read(x: AfterRead) -> CardRead
-    ensures { result ≡ codedRead x }
+    ensures { result ≡ coded_read x }
 {
     let card = x.card;
     let answer = x.answer;
@@ -119,7 +119,7 @@ pub fn coded_read(x: AfterRead) -> CardRead
 }
 
 pub fn coded_told(x: AfterSuccess) -> CardTold
-    ensures { result ≡ codedTold x }
+    ensures { result ≡ coded_told x }
 {
     let card = x.card;
     let answer = x.answer;
@@ -133,7 +133,7 @@ pub fn coded_told(x: AfterSuccess) -> CardTold
 }
 
 pub fn coded_line(x: Read) -> CardLine
-    ensures { result ≡ codedLine x }
+    ensures { result ≡ coded_line x }
 {
     let line = read_value(x);
     let code = read_code(x);
@@ -144,7 +144,7 @@ pub fn coded_line(x: Read) -> CardLine
 }
 
 fn rx_code(a: RxStatus) -> u8
-    ensures { result ≡ rxCode a }
+    ensures { result ≡ rx_code a }
 {
     match a {
         RxStatus::Shows(_, _) => 0,
@@ -153,7 +153,7 @@ fn rx_code(a: RxStatus) -> u8
 }
 
 fn rx_word(a: RxStatus) -> u16
-    ensures { result ≡ rxWordOf a }
+    ensures { result ≡ rx_word_of a }
 {
     match a {
         RxStatus::Shows(word, _) => word,
@@ -162,7 +162,7 @@ fn rx_word(a: RxStatus) -> u16
 }
 
 fn rx_unread(a: RxStatus) -> i16
-    ensures { result ≡ rxUnreadOf a }
+    ensures { result ≡ rx_unread_of a }
 {
     match a {
         RxStatus::Shows(_, unread) => unread,
@@ -171,7 +171,7 @@ fn rx_unread(a: RxStatus) -> i16
 }
 
 pub fn coded_rx_status(x: RxStatus) -> CardRxStatus
-    ensures { result ≡ codedRxStatus x }
+    ensures { result ≡ coded_rx_status x }
 {
     let word = rx_word(x);
     let unread = rx_unread(x);

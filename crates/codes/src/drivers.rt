@@ -1,7 +1,7 @@
 // The driver's answers in numbers.
 ghost use Rattle.std.specs.Prelude.{◌≡◌};
 ghost use Rattle.refusal.specs.Number.{number_of};
-ghost use Rattle.codes.specs.Codes.{openCode, codedOpened, sendCode, sendTicket, codedSent, serviceTold, codedServed, codedPart};
+ghost use Rattle.codes.specs.Codes.{open_code, coded_opened, send_code, send_ticket, coded_sent, service_told, coded_served, coded_part};
 
 use card_rules::Card;
 use driver_rules::{Answer, Driver, OpenAnswer, Opened, SendAnswer, Sent, Serviced};
@@ -56,7 +56,7 @@ pub struct HandedUp {
 }
 
 fn open_code(a: OpenAnswer) -> u8
-    ensures { result ≡ openCode a }
+    ensures { result ≡ open_code a }
 {
     match a {
         OpenAnswer::Done => 0,
@@ -65,7 +65,7 @@ fn open_code(a: OpenAnswer) -> u8
 }
 
 pub fn coded_opened(x: Opened) -> DriverDone
-    ensures { result ≡ codedOpened x }
+    ensures { result ≡ coded_opened x }
 {
     let card = x.card;
     let driver = x.driver;
@@ -79,7 +79,7 @@ pub fn coded_opened(x: Opened) -> DriverDone
 }
 
 fn send_code(a: SendAnswer) -> u8
-    ensures { result ≡ sendCode a }
+    ensures { result ≡ send_code a }
 {
     match a {
         SendAnswer::Ticket(_) => 0,
@@ -88,7 +88,7 @@ fn send_code(a: SendAnswer) -> u8
 }
 
 fn send_ticket(a: SendAnswer) -> u16
-    ensures { result ≡ sendTicket a }
+    ensures { result ≡ send_ticket a }
 {
     match a {
         SendAnswer::Ticket(ticket) => ticket,
@@ -97,7 +97,7 @@ fn send_ticket(a: SendAnswer) -> u16
 }
 
 pub fn coded_sent(x: Sent) -> DriverSent
-    ensures { result ≡ codedSent x }
+    ensures { result ≡ coded_sent x }
 {
     let card = x.card;
     let driver = x.driver;
@@ -127,7 +127,7 @@ fn service_refused(why: Refusal) -> Service
 }
 
 fn service_told(a: Answer) -> Service
-    ensures { result ≡ serviceTold a }
+    ensures { result ≡ service_told a }
 {
     match a {
         Answer::Reported(ticket, status) => Service {
@@ -163,7 +163,7 @@ fn service_told(a: Answer) -> Service
 }
 
 pub fn coded_served(x: Serviced) -> DriverServed
-    ensures { result ≡ codedServed x }
+    ensures { result ≡ coded_served x }
 {
     let card = x.card;
     let driver = x.driver;
@@ -180,7 +180,7 @@ pub fn coded_served(x: Serviced) -> DriverServed
 
 // The part of `len` bytes that a frame of n bytes is handed up in.
 pub fn coded_part(n: usize, len: usize) -> HandedUp
-    ensures { result ≡ codedPart n len }
+    ensures { result ≡ coded_part n len }
 {
     if n <= judge::sizes::LOOKAHEAD_AREA {
         return HandedUp { area: 1, n: len };

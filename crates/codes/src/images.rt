@@ -1,6 +1,6 @@
 // The answer of the image check in numbers.
 ghost use Rattle.std.specs.Prelude.{◌≡◌};
-ghost use Rattle.codes.specs.Codes.{codedCheck};
+ghost use Rattle.codes.specs.Codes.{coded_check};
 
 use image_rules::Checked;
 
@@ -15,7 +15,7 @@ pub struct ImageChecked {
 }
 
 pub fn coded_check(a: Checked) -> ImageChecked
-    ensures { result ≡ codedCheck a }
+    ensures { result ≡ coded_check a }
 {
     match a {
         Checked::Sound {

@@ -1,6 +1,6 @@
 // The answers of the search and of an activation in numbers.
 ghost use Rattle.std.specs.Prelude.{◌≡◌};
-ghost use Rattle.codes.specs.Codes.{foundCode, foundCount, foundAccesses, codedFound, activatedCode, activatedAccesses, codedActivated};
+ghost use Rattle.codes.specs.Codes.{found_code, found_count, found_accesses, coded_found, activated_code, activated_accesses, coded_activated};
 
 use port_rules::{Activation, AfterActivation, AfterSearch, Bus, Found};
 
@@ -25,7 +25,7 @@ pub struct BusDone {
 }
 
 fn found_code(a: Found) -> u8
-    ensures { result ≡ foundCode a }
+    ensures { result ≡ found_code a }
 {
     match a {
         Found::Refused(why) => refusal::number(why),
@@ -37,7 +37,7 @@ fn found_code(a: Found) -> u8
 }
 
 fn found_count(a: Found) -> usize
-    ensures { result ≡ foundCount a }
+    ensures { result ≡ found_count a }
 {
     match a {
         Found::Refused(_) => 0,
@@ -46,7 +46,7 @@ fn found_count(a: Found) -> usize
 }
 
 fn found_accesses(a: Found) -> usize
-    ensures { result ≡ foundAccesses a }
+    ensures { result ≡ found_accesses a }
 {
     match a {
         Found::Refused(_) => 0,
@@ -55,7 +55,7 @@ fn found_accesses(a: Found) -> usize
 }
 
 pub fn coded_found(x: AfterSearch) -> BusFound
-    ensures { result ≡ codedFound x }
+    ensures { result ≡ coded_found x }
 {
     let bus = x.bus;
     let answer = x.answer;
@@ -73,7 +73,7 @@ pub fn coded_found(x: AfterSearch) -> BusFound
 }
 
 fn activated_code(a: Activation) -> u8
-    ensures { result ≡ activatedCode a }
+    ensures { result ≡ activated_code a }
 {
     match a {
         Activation::Refused(why) => refusal::number(why),
@@ -82,7 +82,7 @@ fn activated_code(a: Activation) -> u8
 }
 
 fn activated_accesses(a: Activation) -> usize
-    ensures { result ≡ activatedAccesses a }
+    ensures { result ≡ activated_accesses a }
 {
     match a {
         Activation::Refused(_) => 0,
@@ -91,7 +91,7 @@ fn activated_accesses(a: Activation) -> usize
 }
 
 pub fn coded_activated(x: AfterActivation) -> BusDone
-    ensures { result ≡ codedActivated x }
+    ensures { result ≡ coded_activated x }
 {
     let bus = x.bus;
     let answer = x.answer;

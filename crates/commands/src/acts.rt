@@ -1,11 +1,11 @@
 // What each command does to the card's registers.
 ghost use Rattle.std.specs.Prelude.{◌≡◌, true, false, ◌%◌};
-ghost use Rattle.receive_rules.specs.Update.{withOn, withThreshold};
+ghost use Rattle.receive_rules.specs.Update.{with_on, with_threshold};
 ghost use Rattle.transmit_rules.specs.OutcomesView.{Stacked};
-ghost use Rattle.card_rules.specs.Update.{selectWindow, selectMask, selectZero, selectFilter, linesRequested};
-ghost use Rattle.card_rules.specs.Groups.{cardSelect, cardLines, cardReceiver, cardOutcomes};
+ghost use Rattle.card_rules.specs.Update.{select_window, select_mask, select_zero, select_filter, lines_requested};
+ghost use Rattle.card_rules.specs.Groups.{card_select, card_lines, card_receiver, card_outcomes};
 ghost use Rattle.card_rules.specs.View.{Does};
-ghost use Rattle.card_rules.specs.Command.{mask as mask_of, earlyThreshold, rxReset, txReset, acknowledge as acknowledgeOf};
+ghost use Rattle.card_rules.specs.Command.{mask as mask_of, early_threshold, rx_reset, tx_reset, acknowledge as acknowledge_of};
 
 use card_rules::Card;
 use transmit::outcomes;
@@ -13,7 +13,7 @@ use transmit_rules::{Outcomes, Transmit};
 
 // Select Window.
 pub fn select_window(c: Card, x: u16) -> Card
-    ensures { result ≡ cardSelect (selectWindow (x % 8) c.select) c }
+    ensures { result ≡ card_select (select_window (x % 8) c.select) c }
 {
     let window = x % 8;
     let mut next = c;
@@ -23,7 +23,7 @@ pub fn select_window(c: Card, x: u16) -> Card
 
 // RX Disable and RX Enable.
 pub fn receive_on(c: Card, on: bool) -> Card
-    ensures { result ≡ cardReceiver (withOn on c.receive.receiver) c }
+    ensures { result ≡ card_receiver (with_on on c.receive.receiver) c }
 {
     let mut next = c;
     next.receive.receiver.on = on;
@@ -32,7 +32,7 @@ pub fn receive_on(c: Card, on: bool) -> Card
 
 // RX Reset.
 pub fn rx_reset(c: Card) -> Card
-    ensures { Does c result rxReset }
+    ensures { Does c result rx_reset }
 {
     let wire = receive::deafen(c.receive.receiver.wire);
     let receive = regs::quiet(regs::rx_size(c.config.second), wire);
@@ -44,7 +44,7 @@ pub fn rx_reset(c: Card) -> Card
 
 // The card with other outcomes.
 pub fn with_outcomes(c: Card, o: Outcomes) -> Card
-    ensures { result ≡ cardOutcomes o c }
+    ensures { result ≡ card_outcomes o c }
 {
     let fifo = c.transmit.fifo;
     let transmit = Transmit {
@@ -59,7 +59,7 @@ pub fn with_outcomes(c: Card, o: Outcomes) -> Card
 // TX Reset.
 pub fn tx_reset(c: Card) -> Card
     requires { Stacked c.transmit.outcomes }
-    ensures { Does c result txReset }
+    ensures { Does c result tx_reset }
 {
     let o = transmit::reset(c.transmit.outcomes);
     let fifo = regs::drained(regs::tx_size(c.config.second));
@@ -74,7 +74,7 @@ pub fn tx_reset(c: Card) -> Card
 
 // Request Interrupt.
 pub fn request(c: Card) -> Card
-    ensures { result ≡ cardLines (linesRequested true c.lines) c }
+    ensures { result ≡ card_lines (lines_requested true c.lines) c }
 {
     let mut next = c;
     next.lines.requested = true;
@@ -84,7 +84,7 @@ pub fn request(c: Card) -> Card
 // Acknowledge.
 pub fn acknowledge(c: Card, x: u16) -> Card
     requires { Stacked c.transmit.outcomes }
-    ensures { Does c result (acknowledgeOf x) }
+    ensures { Does c result (acknowledge_of x) }
 {
     let latch = !bits::has(x, 1) & c.lines.latch;
     let requested = !bits::has(x, 64) & c.lines.requested;
@@ -99,7 +99,7 @@ pub fn acknowledge(c: Card, x: u16) -> Card
 
 // The interrupt mask.
 pub fn set_mask(c: Card, x: u16) -> Card
-    ensures { result ≡ cardSelect (selectMask (mask_of x) c.select) c }
+    ensures { result ≡ card_select (select_mask (mask_of x) c.select) c }
 {
     let mask = x % 256 / 2 * 2;
     let mut next = c;
@@ -109,7 +109,7 @@ pub fn set_mask(c: Card, x: u16) -> Card
 
 // The Read Zero mask.
 pub fn set_zero(c: Card, x: u16) -> Card
-    ensures { result ≡ cardSelect (selectZero (mask_of x) c.select) c }
+    ensures { result ≡ card_select (select_zero (mask_of x) c.select) c }
 {
     let zero = x % 256 / 2 * 2;
     let mut next = c;
@@ -119,7 +119,7 @@ pub fn set_zero(c: Card, x: u16) -> Card
 
 // The RX filter.
 pub fn set_filter(c: Card, x: u16) -> Card
-    ensures { result ≡ cardSelect (selectFilter (x % 16) c.select) c }
+    ensures { result ≡ card_select (select_filter (x % 16) c.select) c }
 {
     let filter = x % 16;
     let mut next = c;
@@ -129,7 +129,7 @@ pub fn set_filter(c: Card, x: u16) -> Card
 
 // RX Early: an argument below the least is stored as the least.
 pub fn set_early(c: Card, x: u16) -> Card
-    ensures { result ≡ cardReceiver (withThreshold (earlyThreshold x) c.receive.receiver) c }
+    ensures { result ≡ card_receiver (with_threshold (early_threshold x) c.receive.receiver) c }
 {
     let mut next = c;
     if x < receive::EARLY_LEAST {

@@ -2,7 +2,7 @@
 ghost use Rattle.std.specs.Prelude.{true};
 ghost use Rattle.transmit_rules.specs.OutcomesView.{Stacked};
 ghost use Rattle.card_rules.specs.View.{view, Sound, Is, Does};
-ghost use Rattle.card_rules.specs.Command.{act as actOf, discard as discardOf, command as commandOf, commanded as commandedOf};
+ghost use Rattle.card_rules.specs.Command.{act as act_of, discard as discard_of, command as command_of, commanded as commanded_of};
 
 use card_rules::Card;
 use transmit::outcomes;
@@ -12,7 +12,7 @@ mod acts; // acts.rt: what each command does
 // The commands that touch registers alone.
 fn act(c: Card, n: u16, x: u16) -> Card
     requires { Stacked c.transmit.outcomes }
-    ensures { Does c result (actOf n x) }
+    ensures { Does c result (act_of n x) }
 {
     let o = c.transmit.outcomes;
     match n {
@@ -39,7 +39,7 @@ fn act(c: Card, n: u16, x: u16) -> Card
 // RX Discard.
 fn discard(ram: &mut [u8], dir: &mut [u16], c: Card) -> Card
     requires { Sound c ram.old dir.old }
-    ensures { Is result ram.new dir.new (discardOf (view c ram.old dir.old)) }
+    ensures { Is result ram.new dir.new (discard_of (view c ram.old dir.old)) }
 {
     let receive = receive::discard(ram, dir, regs::rx_size(c.config.second), c.receive);
     let mut next = c;
@@ -50,7 +50,7 @@ fn discard(ram: &mut [u8], dir: &mut [u16], c: Card) -> Card
 // The command of a number, with its argument.
 fn command(ram: &mut [u8], dir: &mut [u16], c: Card, n: u16, x: u16) -> Card
     requires { Sound c ram.old dir.old }
-    ensures { Is result ram.new dir.new (commandOf n x (view c ram.old dir.old)) }
+    ensures { Is result ram.new dir.new (command_of n x (view c ram.old dir.old)) }
 {
     if n == 8 {
         return discard(ram, dir, c);
@@ -61,7 +61,7 @@ fn command(ram: &mut [u8], dir: &mut [u16], c: Card, n: u16, x: u16) -> Card
 // A write of the Command register. In window 0 only Select Window acts.
 pub fn commanded(ram: &mut [u8], dir: &mut [u16], c: Card, v: u16) -> Card
     requires { Sound c ram.old dir.old }
-    ensures { Is result ram.new dir.new (commandedOf v (view c ram.old dir.old)) }
+    ensures { Is result ram.new dir.new (commanded_of v (view c ram.old dir.old)) }
 {
     let n = v / 2048;
     let idle = !(n == 1) & (c.select.window == 0);

@@ -1,7 +1,7 @@
 // The driver's public calls: open, send, service and hand_up. Each tests the state it is handed, and no refusal changes anything.
 ghost use Rattle.std.specs.Prelude.{◌≡◌, length};
 ghost use Rattle.driver_rules.specs.declared.Answer.TheVariants.{Refused};
-ghost use Rattle.driver_rules.specs.Calls.{soundState, Opens, Sends, Services};
+ghost use Rattle.driver_rules.specs.Calls.{sound_state, Opens, Sends, Services};
 ghost use Rattle.driver_rules.specs.HandUp.{HandsUp};
 
 use card_rules::Card;
@@ -11,7 +11,7 @@ use refusal::Refusal;
 // The soundness of card and driver together.
 fn is_sound(ram: &[u8], dir: &[u16], c: Card, d: Driver) -> bool
     requires { (length ram.now ≡ 8192) × (length dir.now ≡ 1110) }
-    ensures { result ≡ soundState c ram.now dir.now d }
+    ensures { result ≡ sound_state c ram.now dir.now d }
 {
     let card = regs::is_sound(ram, dir, c);
     let driver = judge::driver_sound(d);

@@ -2,21 +2,21 @@
 use Rattle.std.specs.Prelude.{Bool, true, ℕ, zero, suc, replicate}
 use Rattle.port_rules.specs.Card.{activated}
 use Rattle.card_rules.specs.Adapter.{Adapter}
-use Rattle.card_rules.specs.Update.{withId}
-use Rattle.card_rules.specs.Power.{powerOn}
-use Rattle.card_rules.specs.Event.{wireStart, wireByte, wireEnd}
+use Rattle.card_rules.specs.Update.{with_id}
+use Rattle.card_rules.specs.Power.{power_on}
+use Rattle.card_rules.specs.Event.{wire_start, wire_byte, wire_end}
 use Rattle.driver_rules.specs.declared.Driver.{Driver}
-use Rattle.driver_rules.specs.Driver.{neverOpened}
+use Rattle.driver_rules.specs.Driver.{never_opened}
 use Rattle.driver_rules.specs.Talk.{Ran, run}
-use Rattle.driver_rules.specs.Open.{Opening, openTalk}
+use Rattle.driver_rules.specs.Open.{Opening, open_talk}
 
 -- a power-on card with words of zero, activated
 unfoldable pub on : Adapter
-on = let a = powerOn (replicate 64 0) 0 in withId (activated 0 a.id) a
+on = let a = power_on (replicate 64 0) 0 in with_id (activated 0 a.id) a
 
 -- opened with the address 00 00 00 00 00 00
 unfoldable pub opens : Ran Opening
-opens = run (openTalk neverOpened 0 0 0) on
+opens = run (open_talk never_opened 0 0 0) on
 
 abbrev pub ready : Adapter
 ready = opens.adapter
@@ -27,7 +27,7 @@ opened = opens.answer.driver
 -- n zero bytes come after the first eight
 unfoldable pub bytes : ℕ → Adapter → Adapter
 bytes zero a = a
-bytes (suc n) a = bytes n (wireByte 0 a)
+bytes (suc n) a = bytes n (wire_byte 0 a)
 
 unfoldable pub frame : ℕ → Bool → Adapter → Adapter
-frame n check a = wireEnd check true (bytes n (wireStart (replicate 8 0) a))
+frame n check a = wire_end check true (bytes n (wire_start (replicate 8 0) a))

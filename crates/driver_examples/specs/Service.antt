@@ -3,20 +3,20 @@ use Rattle.std.specs.Prelude.{◌≡◌, [], ◌∷◌, true, false, ℕ, suc, �
 use Rattle.refusal.specs.declared.Refusal.TheVariants.{StateUnsound, BudgetShort, AreaShort, CardUnfit, NeverOpened}
 use Rattle.receive_rules.specs.Frame.{whole}
 use Rattle.card_rules.specs.Adapter.{Adapter}
-use Rattle.card_rules.specs.Update.{withRx}
+use Rattle.card_rules.specs.Update.{with_rx}
 use Rattle.card_rules.specs.Access.{ReadWord, step, access}
 use Rattle.card_rules.specs.Event.{success, collisions}
 use Rattle.driver_rules.specs.declared.Driver.{Driver}
-use Rattle.driver_rules.specs.Driver.{neverOpened}
+use Rattle.driver_rules.specs.Driver.{never_opened}
 use Rattle.driver_rules.specs.Registers as status
 use Rattle.driver_rules.specs.Talk.{Ran, run}
 use Rattle.driver_rules.specs.declared.Answer.{Answer}
 use Rattle.driver_rules.specs.declared.Answer.TheVariants.{Reported, Status, Idle, Frame, Refused}
 use Rattle.driver_rules.specs.Items.{Serving, words_in}
-use Rattle.driver_rules.specs.Registers.{bad, lengthIn}
-use Rattle.driver_rules.specs.Service.{lookTalk}
-use Rattle.driver_rules.specs.Send.{Sending, sendTalk}
-use Rattle.driver_rules.specs.Calls.{serviceCall}
+use Rattle.driver_rules.specs.Registers.{bad, length_in}
+use Rattle.driver_rules.specs.Service.{look_talk}
+use Rattle.driver_rules.specs.Send.{Sending, send_talk}
+use Rattle.driver_rules.specs.Calls.{service_call}
 use Rattle.driver_examples.specs.Ready.{on, ready, opened, frame}
 
 -- a run answers x with n accesses
@@ -24,59 +24,59 @@ abbrev pub Answers : Answer → ℕ → Ran Serving → Type 0
 Answers x n R = (R.answer.answer ≡ x) × (length R.made ≡ n)
 
 abbrev pub serve : ℕ → Adapter → Ran Serving
-serve budget a = run (lookTalk budget opened) a
+serve budget a = run (look_talk budget opened) a
 
 -- a packet of 14 bytes is sent
 abbrev pub sent : Ran Sending
-sent = run (sendTalk opened (replicate 14 0)) ready
+sent = run (send_talk opened (replicate 14 0)) ready
 
 abbrev pub report : ℕ → Adapter → Ran Serving
-report budget a = run (lookTalk budget sent.answer.driver) a
+report budget a = run (look_talk budget sent.answer.driver) a
 
 -- a whole frame of 1,514 bytes is stored
 abbrev pub stored : Adapter
-stored = withRx (record { receiver = ready.rx.receiver; frames = record { bytes = replicate 1514 7; state = whole } ∷ [] }) ready
+stored = with_rx (record { receiver = ready.rx.receiver; frames = record { bytes = replicate 1514 7; state = whole } ∷ [] }) ready
 
-pub record Service-examples : Type 0 where
+pub record ServiceExamples : Type 0 where
   -- nothing pending: Status and the acknowledgement
   pub nothing : Answers Idle 2 (serve 65535 ready)
-  pub nothing-short : Answers (Refused BudgetShort) 1 (serve 1 ready)
+  pub nothing_short : Answers (Refused BudgetShort) 1 (serve 1 ready)
   -- budget 0: 6 in 5's place
-  pub no-budget : Answers (Refused BudgetShort) 0 (serve 0 on)
+  pub no_budget : Answers (Refused BudgetShort) 0 (serve 0 on)
   -- window 0
   pub unfit : Answers (Refused CardUnfit) 1 (serve 65535 on)
-  pub unopened : Answers (Refused NeverOpened) 0 (run (serviceCall true true neverOpened 65535) ready)
-  pub tight : Answers (Refused AreaShort) 0 (run (serviceCall true false opened 65535) ready)
-  pub unsound : Answers (Refused StateUnsound) 0 (run (serviceCall false true opened 65535) ready)
+  pub unopened : Answers (Refused NeverOpened) 0 (run (service_call true true never_opened 65535) ready)
+  pub tight : Answers (Refused AreaShort) 0 (run (service_call true false opened 65535) ready)
+  pub unsound : Answers (Refused StateUnsound) 0 (run (service_call false true opened 65535) ready)
   -- 60 good bytes, and what is handed up
-  pub good-60 : Answers (Frame 60) 33 (serve 65535 (frame 52 true ready))
-  pub handed-60 : (serve 65535 (frame 52 true ready)).answer.bytes ≡ replicate 60 0
+  pub good_60 : Answers (Frame 60) 33 (serve 65535 (frame 52 true ready))
+  pub handed_60 : (serve 65535 (frame 52 true ready)).answer.bytes ≡ replicate 60 0
   -- a budget one short of it: the frame is not begun
-  pub short-60 : Answers (Refused BudgetShort) 2 (serve 32 (frame 52 true ready))
+  pub short_60 : Answers (Refused BudgetShort) 2 (serve 32 (frame 52 true ready))
   -- one damaged frame and idle
   pub damaged : Answers Idle 5 (serve 65535 (frame 52 false ready))
   -- .. with less: the discard, the second look and the acknowledgement each need 1 left
-  pub damaged-2 : Answers (Refused BudgetShort) 2 (serve 2 (frame 52 false ready))
-  pub damaged-3 : Answers (Refused BudgetShort) 3 (serve 3 (frame 52 false ready))
-  pub damaged-4 : Answers (Refused BudgetShort) 4 (serve 4 (frame 52 false ready))
+  pub damaged_2 : Answers (Refused BudgetShort) 2 (serve 2 (frame 52 false ready))
+  pub damaged_3 : Answers (Refused BudgetShort) 3 (serve 3 (frame 52 false ready))
+  pub damaged_4 : Answers (Refused BudgetShort) 4 (serve 4 (frame 52 false ready))
   -- a packet's success: Status, TX Status, the pop, TX Status
   pub reported : Answers (Reported 0 0xC0) 4 (report 65535 (success sent.adapter))
   -- 16 collisions: TX Enable besides
   pub restarted : Answers (Reported 0 0xC8) 5 (report 65535 (collisions sent.adapter))
   -- no packet unreported: the status alone
-  pub status-alone : Answers (Status 0xC0) 4 (serve 65535 (success sent.adapter))
-  pub report-short : Answers (Refused BudgetShort) 1 (report 4 (success sent.adapter))
+  pub status_alone_is : Answers (Status 0xC0) 4 (serve 65535 (success sent.adapter))
+  pub report_short : Answers (Refused BudgetShort) 1 (report 4 (success sent.adapter))
 
 -- 1,514 bytes, and what is handed up
-pub record A-frame-of-1514-bytes : Type 0 where
-  pub good-1514 : Answers (Frame 1514) 760 (serve 65535 stored)
-  pub handed-1514 : (serve 65535 stored).answer.bytes ≡ replicate 1514 7
+pub record AFrameOf1514Bytes : Type 0 where
+  pub good_1514 : Answers (Frame 1514) 760 (serve 65535 stored)
+  pub handed_1514 : (serve 65535 stored).answer.bytes ≡ replicate 1514 7
 
 -- Any good frame costs Status, RX Status, its words and the discard.
-pub record What-a-good-frame-costs : Type 0 where
+pub record WhatAGoodFrameCosts : Type 0 where
   pub of-any :
       (left : ℕ) (d : Driver) (s s₁ s₂ : Adapter) (v rx : ℕ) → access (ReadWord 14) s ≡ step v s₁ → access (ReadWord 8) s₁ ≡ step rx s₂
-      → status.unfit v ≡ false → status.txComplete v ≡ false → status.rxComplete v ≡ true → bad rx ≡ false → words_in (lengthIn rx) + 1 ≤ left
-      → length (run (lookTalk (suc (suc left)) d) s).made ≡ words_in (lengthIn rx) + 3
-  pub of-60 : words_in 60 + 3 ≡ 33
-  pub of-1514 : words_in 1514 + 3 ≡ 760
+      → status.unfit v ≡ false → status.tx_complete v ≡ false → status.rx_complete v ≡ true → bad rx ≡ false → words_in (length_in rx) + 1 ≤ left
+      → length (run (look_talk (suc (suc left)) d) s).made ≡ words_in (length_in rx) + 3
+  pub of_60 : words_in 60 + 3 ≡ 33
+  pub of_1514 : words_in 1514 + 3 ≡ 760

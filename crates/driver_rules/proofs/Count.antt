@@ -9,32 +9,32 @@ use lib.IntN.{ℤ}
 use Rattle.bits.specs.Bits.{has}
 use Rattle.bits.proofs.Tests.{of_test, neither}
 use Rattle.receive_rules.specs.Count.{decoded}
-use Rattle.driver_rules.specs.Registers.{outsideFrame, bad, length_of, lengthIn}
+use Rattle.driver_rules.specs.Registers.{outside_frame, bad, length_of, length_in}
 
 -- outside 60 to 1,514 as bits 10-0 have it
-abbrev pub outsideBefore : ℕ → Bool
-outsideBefore rx = ltb (rx % 2048) 60 || ltb 1514 (rx % 2048)
+abbrev pub outside_before : ℕ → Bool
+outside_before rx = ltb (rx % 2048) 60 || ltb 1514 (rx % 2048)
 
-outside-is : (rx : ℕ) → outsideFrame (decoded rx) ≡ outsideBefore rx
-outside-is rx =
-    of_test (λ (z : ℤ). outsideFrame z ≡ outsideBefore rx) (leb (rx % 2048) 1792)
+outside_is : (rx : ℕ) → outside_frame (decoded rx) ≡ outside_before rx
+outside_is rx =
+    of_test (λ (z : ℤ). outside_frame z ≡ outside_before rx) (leb (rx % 2048) 1792)
     (λ y. refl)
     (λ n. let h = leb-false (rx % 2048) 1792 n in rw (le-ltb (rx % 2048) 60 (omega arith), lt-ltb 1514 (rx % 2048) (omega arith)))
 
-pub bad-is : (rx : ℕ) → bad rx ≡ (has 16384 rx || outsideBefore rx)
-bad-is rx = rw (outside-is rx)
+pub bad_is : (rx : ℕ) → bad rx ≡ (has 16384 rx || outside_before rx)
+bad_is rx = rw (outside_is rx)
 
 -- a word that is not bad tells 60 to 1,514 bytes, in bits 10-0 as they are
 pub record Good (rx : ℕ) : Type 0 where
-  pub same : lengthIn rx ≡ rx % 2048
-  pub long : 60 ≤ lengthIn rx
-  pub short : lengthIn rx ≤ 1514
+  pub same : length_in rx ≡ rx % 2048
+  pub long : 60 ≤ length_in rx
+  pub short : length_in rx ≤ 1514
 
 pub good-told : (rx : ℕ) → bad rx ≡ false → Good rx
 good-told rx b =
-    let p = (neither (has 16384 rx) (outsideBefore rx) (sym (bad-is rx) ∙ b)).1 in
+    let p = (neither (has 16384 rx) (outside_before rx) (sym (bad_is rx) ∙ b)).1 in
     let q = neither (ltb (rx % 2048) 60) (ltb 1514 (rx % 2048)) p in
     let long = ltb-false (rx % 2048) 60 q.0 in
     let short = ltb-false 1514 (rx % 2048) q.1 in
-    let e : lengthIn rx ≡ rx % 2048 = of_test (λ (z : ℤ). length_of z ≡ rx % 2048) (leb (rx % 2048) 1792) (λ y. refl) (λ n. let h = leb-false (rx % 2048) 1792 n in absurd (omega arith)) in
+    let e : length_in rx ≡ rx % 2048 = of_test (λ (z : ℤ). length_of z ≡ rx % 2048) (leb (rx % 2048) 1792) (λ y. refl) (λ n. let h = leb-false (rx % 2048) 1792 n in absurd (omega arith)) in
     record { same = e; long = rw e long; short = rw e short }

@@ -11,57 +11,57 @@ use Rattle.driver_rules.specs.Talk.{Ran, run}
 use Rattle.driver_rules.specs.declared.Served.{Served}
 use Rattle.driver_rules.specs.Items.{Serving}
 use Rattle.driver_rules.specs.Meets.{Ended}
-use Rattle.driver_rules.specs.Service.{lookTalk}
+use Rattle.driver_rules.specs.Service.{look_talk}
 use Rattle.driver_rules.specs.Serves.{discarded, GoesOn, Paused, Meets}
 use Rattle.driver_rules.specs.Serving.{Serves}
 
-is-ended : (b : Bool) (left : ℕ) (R : Ran Serving) (r : Served) (s : Adapter) (l₀ f₀ l f : List ℕ) → b ≡ false → Meets b left R r s l₀ f₀ l f → Ended left R r s l₀ f₀ l f
+is_ended : (b : Bool) (left : ℕ) (R : Ran Serving) (r : Served) (s : Adapter) (l₀ f₀ l f : List ℕ) → b ≡ false → Meets b left R r s l₀ f₀ l f → Ended left R r s l₀ f₀ l f
 unfolding Meets
-is-ended true left R r s l₀ f₀ l f e m = absurd (let z : ◌≡◌ {A = ℕ} 0 1 = cc in omega arith)
-is-ended false left R r s l₀ f₀ l f e m = m
+is_ended true left R r s l₀ f₀ l f e m = absurd (let z : ◌≡◌ {A = ℕ} 0 1 = cc in omega arith)
+is_ended false left R r s l₀ f₀ l f e m = m
 
-is-paused : (b : Bool) (left : ℕ) (R : Ran Serving) (r : Served) (s : Adapter) (l₀ f₀ l f : List ℕ) → b ≡ true → Meets b left R r s l₀ f₀ l f → Paused left R r s l₀ f₀ l f
+is_paused : (b : Bool) (left : ℕ) (R : Ran Serving) (r : Served) (s : Adapter) (l₀ f₀ l f : List ℕ) → b ≡ true → Meets b left R r s l₀ f₀ l f → Paused left R r s l₀ f₀ l f
 unfolding Meets
-is-paused true left R r s l₀ f₀ l f e m = m
-is-paused false left R r s l₀ f₀ l f e m = absurd (let z : ◌≡◌ {A = ℕ} 0 1 = cc in omega arith)
+is_paused true left R r s l₀ f₀ l f e m = m
+is_paused false left R r s l₀ f₀ l f e m = absurd (let z : ◌≡◌ {A = ℕ} 0 1 = cc in omega arith)
 
 -- a service of `budget`, whose run is R, stands before a look with `left`
 pub record Going (budget : ℕ) (R : Ran Serving) (left : ℕ) (d : Driver) (s : Adapter) (l₀ f₀ l f : List ℕ) : Type 0 where
-  pub on : GoesOn budget R left (run (lookTalk left d) s)
+  pub on : GoesOn budget R left (run (look_talk left d) s)
   pub look : l ≡ l₀
   pub frame : f ≡ f₀
 
-pub going-none : (budget : ℕ) (d : Driver) (s : Adapter) (l f : List ℕ) → Going budget (run (lookTalk budget d) s) budget d s l f l f
-going-none budget d s l f = record { on = record { answer = refl; adapter = refl; count = omega arith }; look = refl; frame = refl }
+pub going_none : (budget : ℕ) (d : Driver) (s : Adapter) (l f : List ℕ) → Going budget (run (look_talk budget d) s) budget d s l f l f
+going_none budget d s l f = record { on = record { answer = refl; adapter = refl; count = omega arith }; look = refl; frame = refl }
 
 module _ (budget : ℕ) (R : Ran Serving) (left : ℕ) (d : Driver) (s : Adapter) (l₀ f₀ l f : List ℕ) (G : Going budget R left d s l₀ f₀ l f)
-    (r : Served) (s' : Adapter) (l' f' : List ℕ) (m : Meets r.paused left (run (lookTalk left d) s) r s' l f l' f') where
-  pub going-left : r.paused ≡ true → r.left < left
-  going-left p = (is-paused _ _ _ _ _ _ _ _ _ p m).less
+    (r : Served) (s' : Adapter) (l' f' : List ℕ) (m : Meets r.paused left (run (look_talk left d) s) r s' l f l' f') where
+  pub going_left : r.paused ≡ true → r.left < left
+  going_left p = (is_paused _ _ _ _ _ _ _ _ _ p m).less
 
-  pub going-discard : r.paused ≡ true → discarded (run (lookTalk left d) s).made ≡ true
-  going-discard p = (is-paused _ _ _ _ _ _ _ _ _ p m).discard
+  pub going_discard : r.paused ≡ true → discarded (run (look_talk left d) s).made ≡ true
+  going_discard p = (is_paused _ _ _ _ _ _ _ _ _ p m).discard
 
   pub going_more : r.paused ≡ true → Going budget R r.left r.driver s' l₀ f₀ l' f'
   going_more p =
-      let t = is-paused _ _ _ _ _ _ _ _ _ p m in
+      let t = is_paused _ _ _ _ _ _ _ _ _ p m in
       record {
         on = record { answer = G.on.answer ∙ t.on.answer; adapter = G.on.adapter ∙ t.on.adapter; count = omega (arith, G.on.count, t.on.count) };
         look = t.look ∙ G.look;
         frame = t.frame ∙ G.frame;
       }
 
-  pub going-within : r.paused ≡ false → length R.made + r.left ≡ budget
-  going-within p = omega (arith, G.on.count, (is-ended _ _ _ _ _ _ _ _ _ p m).count)
+  pub going_within : r.paused ≡ false → length R.made + r.left ≡ budget
+  going_within p = omega (arith, G.on.count, (is_ended _ _ _ _ _ _ _ _ _ p m).count)
 
   pub going_done : r.paused ≡ false
       → Serves R (record { driver = r.driver; card = r.card; answer = r.answer; used = budget - r.left }) s' l₀ f₀ l' f'
   going_done p =
-      let t = is-ended _ _ _ _ _ _ _ _ _ p m in
+      let t = is_ended _ _ _ _ _ _ _ _ _ p m in
       record {
         answer = t.answer ∙ sym (ap (λ x. x.answer) G.on.answer);
         driver = t.driver ∙ sym (ap (λ x. x.driver) G.on.answer);
-        used = omega (arith, going-within p);
+        used = omega (arith, going_within p);
         adapter = t.adapter ∙ sym G.on.adapter;
         look = rw (← G.look, G.on.answer) t.look;
         frame = rw (← G.frame, G.on.answer) t.frame;

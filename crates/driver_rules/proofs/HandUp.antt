@@ -6,15 +6,15 @@ use native.Mathlib.Omega.{arith}
 use lib.ListN.{length, length-append}
 use lib.Seq.{take_at}
 use borrow.Author.Tests.{le-leb}
-use Rattle.bits.proofs.Tests.{by-test}
-use Rattle.driver_rules.specs.Areas.{isShort, inLook, inFrame}
+use Rattle.bits.proofs.Tests.{by_test}
+use Rattle.driver_rules.specs.Areas.{is_short, in_look, in_frame}
 use Rattle.driver_rules.specs.HandUp.{front, handed}
 
-lay-front : (bytes rest : List ℕ) → front (length bytes) (bytes ++ rest) ≡ bytes
-lay-front bytes rest =
+lay_front : (bytes rest : List ℕ) → front (length bytes) (bytes ++ rest) ≡ bytes
+lay_front bytes rest =
     rw (le-leb (length bytes) (length (bytes ++ rest)) (simp length-append (omega arith)), take_at bytes rest (length bytes) refl)
 
-pub handed-as : (bytes look frame : List ℕ) → handed (inLook bytes look) (inFrame bytes frame) (length bytes) ≡ bytes
-unfolding inLook inFrame
-handed-as bytes look frame =
-    by-test (isShort (length bytes)) (λ e. rw e (lay-front bytes _)) (λ e. rw e (lay-front bytes _))
+pub handed_as : (bytes look frame : List ℕ) → handed (in_look bytes look) (in_frame bytes frame) (length bytes) ≡ bytes
+unfolding in_look in_frame
+handed_as bytes look frame =
+    by_test (is_short (length bytes)) (λ e. rw e (lay_front bytes _)) (λ e. rw e (lay_front bytes _))

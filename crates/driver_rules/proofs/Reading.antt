@@ -10,24 +10,24 @@ use lib.ListN.{length, get_or, set, take, drop, length-set}
 use lib.Seq.{get_or-drop, drop-drop, drop-cons, set_at, take-suc, length-take-le}
 use Rattle.card_rules.specs.Adapter.{Adapter}
 use Rattle.card_rules.specs.Access.{ReadWord, Step, step, access}
-use Rattle.driver_rules.specs.Talk.{after, afterReads, bytesRead}
+use Rattle.driver_rules.specs.Talk.{after, after_reads, bytes_read}
 use Rattle.driver_rules.proofs.Runs.{read_length}
 
 read_one : (k : ℕ) (s s' : Adapter) (v : ℕ) → access (ReadWord 0) s ≡ step v s'
-    → (afterReads (suc k) s ≡ afterReads k s') × (bytesRead (suc k) s ≡ v % 256 ∷ (v / 256 ∷ bytesRead k s'))
-unfolding bytesRead after
-read_one k s s' v a = (ap (λ (t : Step). afterReads k t.adapter) a, rw a)
+    → (after_reads (suc k) s ≡ after_reads k s') × (bytes_read (suc k) s ≡ v % 256 ∷ (v / 256 ∷ bytes_read k s'))
+unfolding bytes_read after
+read_one k s s' v a = (ap (λ (t : Step). after_reads k t.adapter) a, rw a)
 
 -- word j of w
-read-turn : (w j : ℕ) (s s' : Adapter) (v : ℕ) → j < w → access (ReadWord 0) s ≡ step v s'
-    → (afterReads (w - j) s ≡ afterReads (w - (j + 1)) s') × (bytesRead (w - j) s ≡ v % 256 ∷ (v / 256 ∷ bytesRead (w - (j + 1)) s'))
-read-turn w j s s' v h a =
+read_turn : (w j : ℕ) (s s' : Adapter) (v : ℕ) → j < w → access (ReadWord 0) s ≡ step v s'
+    → (after_reads (w - j) s ≡ after_reads (w - (j + 1)) s') × (bytes_read (w - j) s ≡ v % 256 ∷ (v / 256 ∷ bytes_read (w - (j + 1)) s'))
+read_turn w j s s' v h a =
     let more : w - j ≡ suc (w - (j + 1)) = omega arith in
     rw more (read_one (w - (j + 1)) s s' v a)
 
 -- the first i bytes of b lie in an area, and one more
-lay-more : (b area : List ℕ) (i v : ℕ) → i < length b → i < length area → get_or b i 0 ≡ v → set (take i b ++ drop i area) i v ≡ take (i + 1) b ++ drop (i + 1) area
-lay-more b area i v h k e =
+lay_more : (b area : List ℕ) (i v : ℕ) → i < length b → i < length area → get_or b i 0 ≡ v → set (take i b ++ drop i area) i v ≡ take (i + 1) b ++ drop (i + 1) area
+lay_more b area i v h k e =
     rw (drop-cons area i 0, set_at (take i b) _ _ v i (length-take-le i b (omega arith)), add-one, take-suc b i 0, e, append_assoc)
 
 -- what is left to read of b begins with two bytes
@@ -39,9 +39,9 @@ two-left b rest i x y e =
 pub record Reading (n : ℕ) (s₀ : Adapter) (area₀ : List ℕ) (i : ℕ) (s : Adapter) (area : List ℕ) : Type 0 where
   pub even : i < n → i % 2 ≡ 0
   pub size : length area ≡ length area₀
-  pub onward : afterReads ((n + 1) / 2) s₀ ≡ afterReads ((n + 1) / 2 - (i + 1) / 2) s
-  pub rest : i < n → drop i (bytesRead ((n + 1) / 2) s₀) ≡ bytesRead ((n + 1) / 2 - (i + 1) / 2) s
-  pub laid : area ≡ take i (bytesRead ((n + 1) / 2) s₀) ++ drop i area₀
+  pub onward : after_reads ((n + 1) / 2) s₀ ≡ after_reads ((n + 1) / 2 - (i + 1) / 2) s
+  pub rest : i < n → drop i (bytes_read ((n + 1) / 2) s₀) ≡ bytes_read ((n + 1) / 2 - (i + 1) / 2) s
+  pub laid : area ≡ take i (bytes_read ((n + 1) / 2) s₀) ++ drop i area₀
 
 pub reading-none : (n : ℕ) (s : Adapter) (area : List ℕ) → Reading n s area 0 s area
 reading-none n s area = record { even = λ _. refl; size = refl; onward = rw sub-zero; rest = λ _. rw sub-zero; laid = refl }
@@ -51,14 +51,14 @@ module _ (n : ℕ) (s₀ : Adapter) (area₀ : List ℕ) (i : ℕ) (s : Adapter)
   half : (i + 1) / 2 ≡ i / 2
   half = omega (arith, R.even more)
 
-  word : (afterReads ((n + 1) / 2 - i / 2) s ≡ afterReads ((n + 1) / 2 - (i / 2 + 1)) s') × (bytesRead ((n + 1) / 2 - i / 2) s ≡ v % 256 ∷ (v / 256 ∷ bytesRead ((n + 1) / 2 - (i / 2 + 1)) s'))
-  word = read-turn ((n + 1) / 2) (i / 2) s s' v (omega arith) read
+  word : (after_reads ((n + 1) / 2 - i / 2) s ≡ after_reads ((n + 1) / 2 - (i / 2 + 1)) s') × (bytes_read ((n + 1) / 2 - i / 2) s ≡ v % 256 ∷ (v / 256 ∷ bytes_read ((n + 1) / 2 - (i / 2 + 1)) s'))
+  word = read_turn ((n + 1) / 2) (i / 2) s s' v (omega arith) read
 
-  both : (get_or (bytesRead ((n + 1) / 2) s₀) i 0 ≡ v % 256) × ((get_or (bytesRead ((n + 1) / 2) s₀) (i + 1) 0 ≡ v / 256) × (drop (i + 2) (bytesRead ((n + 1) / 2) s₀) ≡ bytesRead ((n + 1) / 2 - (i / 2 + 1)) s'))
-  both = two-left (bytesRead ((n + 1) / 2) s₀) _ i _ _ ((rw half at (R.rest more)) ∙ word.1)
+  both : (get_or (bytes_read ((n + 1) / 2) s₀) i 0 ≡ v % 256) × ((get_or (bytes_read ((n + 1) / 2) s₀) (i + 1) 0 ≡ v / 256) × (drop (i + 2) (bytes_read ((n + 1) / 2) s₀) ≡ bytes_read ((n + 1) / 2 - (i / 2 + 1)) s'))
+  both = two-left (bytes_read ((n + 1) / 2) s₀) _ i _ _ ((rw half at (R.rest more)) ∙ word.1)
 
-  low : set area i (v % 256) ≡ take (i + 1) (bytesRead ((n + 1) / 2) s₀) ++ drop (i + 1) area₀
-  low = rw R.laid (lay-more (bytesRead ((n + 1) / 2) s₀) area₀ i (v % 256) (omega (arith, read_length ((n + 1) / 2) s₀)) (omega arith) both.0)
+  low : set area i (v % 256) ≡ take (i + 1) (bytes_read ((n + 1) / 2) s₀) ++ drop (i + 1) area₀
+  low = rw R.laid (lay_more (bytes_read ((n + 1) / 2) s₀) area₀ i (v % 256) (omega (arith, read_length ((n + 1) / 2) s₀)) (omega arith) both.0)
 
   -- the last byte of an odd length
   pub reading-one : n ≤ i + 1 → Reading n s₀ area₀ (i + 1) s' (set area i (v % 256))
@@ -81,11 +81,11 @@ module _ (n : ℕ) (s₀ : Adapter) (area₀ : List ℕ) (i : ℕ) (s : Adapter)
         size = simp length-set R.size;
         onward = rw half at R.onward ∙ (word.0 ∙ rw e);
         rest = λ h. rw e (rw at at both.1.1);
-        laid = rw low (lay-more (bytesRead ((n + 1) / 2) s₀) area₀ (i + 1) (v / 256) (omega (arith, read_length ((n + 1) / 2) s₀)) (omega arith) both.1.0);
+        laid = rw low (lay_more (bytes_read ((n + 1) / 2) s₀) area₀ (i + 1) (v / 256) (omega (arith, read_length ((n + 1) / 2) s₀)) (omega arith) both.1.0);
       }
 
-pub reading-all : (n : ℕ) (s₀ : Adapter) (area₀ : List ℕ) (i : ℕ) (s : Adapter) (area : List ℕ) → Reading n s₀ area₀ i s area → i ≡ n → (s ≡ afterReads ((n + 1) / 2) s₀) × (area ≡ take n (bytesRead ((n + 1) / 2) s₀) ++ drop n area₀)
+pub reading_all : (n : ℕ) (s₀ : Adapter) (area₀ : List ℕ) (i : ℕ) (s : Adapter) (area : List ℕ) → Reading n s₀ area₀ i s area → i ≡ n → (s ≡ after_reads ((n + 1) / 2) s₀) × (area ≡ take n (bytes_read ((n + 1) / 2) s₀) ++ drop n area₀)
 unfolding after
-reading-all n s₀ area₀ i s area R e =
+reading_all n s₀ area₀ i s area R e =
     let none : (n + 1) / 2 - (i + 1) / 2 ≡ 0 = omega arith in
     (sym (rw none at R.onward), rw e at R.laid)

@@ -14,7 +14,7 @@ use Rattle.card_rules.specs.View.{view, Sound, Stands}
 use Rattle.card_rules.specs.Access.{Access, ReadWord, WriteWord, Step, step, ones, access}
 use Rattle.card_rules.specs.Gives.{Gives}
 use Rattle.card_rules.proofs.StepEnds.{asleep}
-use Rattle.driver_rules.specs.Talk.{Talk, done, ask, extended, run, readWords, writeWords, words_of, after, afterReads, afterWrites, bytesRead}
+use Rattle.driver_rules.specs.Talk.{Talk, done, ask, extended, run, read_words, write_words, words_of, after, after_reads, after_writes, bytes_read}
 
 -- what a step function gives, as an equation
 pub gave : {r : Card} {v : ℕ} {ram dir : List ℕ} {s : Step} → Gives r v ram dir s → s ≡ step v (view r ram dir)
@@ -24,40 +24,40 @@ pub wrote : {r : Card} {ram dir : List ℕ} (s : Step) → Stands r ram dir s.ad
 wrote s w = λ i. record { value = s.value; adapter = sym w.shows i }
 
 -- an inactive card stays as it is
-pub asleep-run : {A : Type 0} (t : Talk A) (a : Adapter) → a.id.active ≡ false → (run t a).adapter ≡ a
+pub asleep_run : {A : Type 0} (t : Talk A) (a : Adapter) → a.id.active ≡ false → (run t a).adapter ≡ a
 unfolding run
-asleep-run (done x) a n = refl
-asleep-run (ask x k) a n =
-    ap (λ (t : Step). (run (k t.value) t.adapter).adapter) (asleep x a n) ∙ asleep-run (k (ones x)) a n
+asleep_run (done x) a n = refl
+asleep_run (ask x k) a n =
+    ap (λ (t : Step). (run (k t.value) t.adapter).adapter) (asleep x a n) ∙ asleep_run (k (ones x)) a n
 
 -- ---- loops of accesses
 
-pub writes-law : {A : Type 0} (vs : List ℕ) (next : Talk A) (a : Adapter) → run (writeWords vs next) a ≡ extended (map (WriteWord 0) vs) (run next (afterWrites vs a))
-unfolding run writeWords after
-writes-law [] next a = refl
-writes-law (v ∷ vs) next a = ap (extended (WriteWord 0 v ∷ [])) (writes-law vs next (access (WriteWord 0 v) a).adapter)
+pub writes_law : {A : Type 0} (vs : List ℕ) (next : Talk A) (a : Adapter) → run (write_words vs next) a ≡ extended (map (WriteWord 0) vs) (run next (after_writes vs a))
+unfolding run write_words after
+writes_law [] next a = refl
+writes_law (v ∷ vs) next a = ap (extended (WriteWord 0 v ∷ [])) (writes_law vs next (access (WriteWord 0 v) a).adapter)
 
-pub reads-law : {A : Type 0} (w : ℕ) (next : List ℕ → Talk A) (a : Adapter) → run (readWords w next) a ≡ extended (replicate w (ReadWord 0)) (run (next (bytesRead w a)) (afterReads w a))
-unfolding run readWords bytesRead after
-reads-law zero next a = refl
-reads-law (suc w) next a =
-    ap (extended (ReadWord 0 ∷ [])) (reads-law w (λ bytes. next ((access (ReadWord 0) a).value % 256 ∷ ((access (ReadWord 0) a).value / 256 ∷ bytes))) (access (ReadWord 0) a).adapter)
+pub reads_law : {A : Type 0} (w : ℕ) (next : List ℕ → Talk A) (a : Adapter) → run (read_words w next) a ≡ extended (replicate w (ReadWord 0)) (run (next (bytes_read w a)) (after_reads w a))
+unfolding run read_words bytes_read after
+reads_law zero next a = refl
+reads_law (suc w) next a =
+    ap (extended (ReadWord 0 ∷ [])) (reads_law w (λ bytes. next ((access (ReadWord 0) a).value % 256 ∷ ((access (ReadWord 0) a).value / 256 ∷ bytes))) (access (ReadWord 0) a).adapter)
 
-pub read_length : (w : ℕ) (a : Adapter) → length (bytesRead w a) ≡ 2 * w
-unfolding bytesRead
+pub read_length : (w : ℕ) (a : Adapter) → length (bytes_read w a) ≡ 2 * w
+unfolding bytes_read
 read_length zero a = refl
 read_length (suc w) a = ap (λ n. suc (suc n)) (read_length w (access (ReadWord 0) a).adapter) ∙ omega arith
 
 -- ---- a turn of the loop that writes: word i of m, of the bytes p
 
 write-one : (k : ℕ) (p : List ℕ) (s s' : Adapter) (v x : ℕ) → get_or p 0 0 + 256 * get_or p 1 0 ≡ v → access (WriteWord 0 v) s ≡ step x s'
-    → afterWrites (words_of (suc k) p) s ≡ afterWrites (words_of k (drop 2 p)) s'
+    → after_writes (words_of (suc k) p) s ≡ after_writes (words_of k (drop 2 p)) s'
 unfolding words_of after
 write-one k p s s' v x e a = rw (e, a)
 
-pub write-turn : (m i : ℕ) (p : List ℕ) (s s' : Adapter) (v x : ℕ) → i < m → v ≡ get_or p (2 * i) 0 + 256 * get_or p (2 * i + 1) 0 → access (WriteWord 0 v) s ≡ step x s'
-    → afterWrites (words_of (m - i) (drop (2 * i) p)) s ≡ afterWrites (words_of (m - (i + 1)) (drop (2 * (i + 1)) p)) s'
-write-turn m i p s s' v x h e a =
+pub write_turn : (m i : ℕ) (p : List ℕ) (s s' : Adapter) (v x : ℕ) → i < m → v ≡ get_or p (2 * i) 0 + 256 * get_or p (2 * i + 1) 0 → access (WriteWord 0 v) s ≡ step x s'
+    → after_writes (words_of (m - i) (drop (2 * i) p)) s ≡ after_writes (words_of (m - (i + 1)) (drop (2 * (i + 1)) p)) s'
+write_turn m i p s s' v x h e a =
     let more : m - i ≡ suc (m - (i + 1)) = omega arith in
     let at : 2 * i + 2 ≡ 2 * (i + 1) = omega arith in
     let word : get_or (drop (2 * i) p) 0 0 + 256 * get_or (drop (2 * i) p) 1 0 ≡ v = rw (get_or-drop (2 * i) p 0 0, get_or-drop (2 * i) p 1 0, add-zero (2 * i)) (sym e) in
@@ -65,15 +65,15 @@ write-turn m i p s s' v x h e a =
 
 -- ---- what the requirements of the step functions want
 
-pub past-data : 4 ≤ 11
-past-data = omega arith
+pub past_data : 4 ≤ 11
+past_data = omega arith
 
 -- memory keeps its length where the card is sound before and after
-pub ram-kept : {c r : Card} {ram dir ram' dir' : List ℕ} → Sound r ram' dir' → Sound c ram dir → length ram' ≡ length ram
-ram-kept s t = s.held.ram-long ∙ sym t.held.ram-long
+pub ram_kept : {c r : Card} {ram dir ram' dir' : List ℕ} → Sound r ram' dir' → Sound c ram dir → length ram' ≡ length ram
+ram_kept s t = s.held.ram_long ∙ sym t.held.ram_long
 
-pub dir-kept : {c r : Card} {ram dir ram' dir' : List ℕ} → Sound r ram' dir' → Sound c ram dir → length dir' ≡ length dir
-dir-kept s t = s.held.dir-long ∙ sym t.held.dir-long
+pub dir_kept : {c r : Card} {ram dir ram' dir' : List ℕ} → Sound r ram' dir' → Sound c ram dir → length dir' ≡ length dir
+dir_kept s t = s.held.dir_long ∙ sym t.held.dir_long
 
 -- ---- accesses one after the other
 

@@ -16,11 +16,11 @@ use Rattle.card_rules.specs.View.{view, Stands}
 use Rattle.card_rules.specs.Access.{ReadWord, WriteWord, step, access}
 use Rattle.driver_rules.specs.declared.Driver.{Driver}
 use Rattle.driver_rules.specs.Registers.{unfit}
-use Rattle.driver_rules.specs.Talk.{Ran, run, words_of, afterWrites}
-use Rattle.driver_rules.proofs.Runs.{writes-law, stands-then, stands_one}
+use Rattle.driver_rules.specs.Talk.{Ran, run, words_of, after_writes}
+use Rattle.driver_rules.proofs.Runs.{writes_law, stands-then, stands_one}
 use Rattle.driver_rules.specs.declared.SendAnswer.TheVariants.{Ticket, Refused}
-use Rattle.driver_rules.specs.Packet.{outside, lacksRoom, packetWords}
-use Rattle.driver_rules.specs.Send.{Sending, refuses, ticketed, sendTalk}
+use Rattle.driver_rules.specs.Packet.{outside, lacks_room, packet_words}
+use Rattle.driver_rules.specs.Send.{Sending, refuses, ticketed, send_talk}
 use Rattle.driver_rules.specs.Sends.{Sends}
 
 -- no packet is too long that is not outside
@@ -30,7 +30,7 @@ not-long n e = ltb-false 1514 n (neither (ltb n 14) (ltb 1514 n) e).1
 -- the two preamble words, then the data
 pub written : {c₁ c₂ c₃ : Card} {ram₁ dir₁ ram₂ dir₂ ram₃ dir₃ : List ℕ} (p : List ℕ) (a : Adapter) (m : ℕ) → m ≡ round4 (length p)
     → Stands c₁ ram₁ dir₁ (access (WriteWord 0 (0x8000 + length p)) a).adapter → Stands c₂ ram₂ dir₂ (access (WriteWord 0 0) (view c₁ ram₁ dir₁)).adapter
-    → Stands c₃ ram₃ dir₃ (afterWrites (words_of (m / 2) p) (view c₂ ram₂ dir₂)) → Stands c₃ ram₃ dir₃ (afterWrites (packetWords p) a)
+    → Stands c₃ ram₃ dir₃ (after_writes (words_of (m / 2) p) (view c₂ ram₂ dir₂)) → Stands c₃ ram₃ dir₃ (after_writes (packet_words p) a)
 written p a m e s t u =
     rw (← e)
     (stands-then (WriteWord 0 (0x8000 + length p) ∷ []) _ a (stands_one _ a s)
@@ -38,44 +38,44 @@ written p a m e s t u =
 
 module _ (d : Driver) (p : List ℕ) (c : Card) (ram dir : List ℕ) where
   abbrev R : Ran Sending
-  R = run (sendTalk d p) (view c ram dir)
+  R = run (send_talk d p) (view c ram dir)
 
   refused : (why : Refusal) → R.answer ≡ refuses d why → Sends R c ram dir (record { card = c; driver = d; answer = Refused why }) ram dir
   refused why e =
       record { answer = sym (ap (λ x. x.answer) e); driver = sym (ap (λ x. x.driver) e); taken = λ n. never (sym n); kept = λ _. (refl, (refl, refl)) }
 
   pub unopened : d.opened ≡ false → Sends R c ram dir (record { card = c; driver = d; answer = Refused NeverOpened }) ram dir
-  unfolding run sendTalk
+  unfolding run send_talk
   unopened o = refused NeverOpened (rw o)
 
   module _ (o : d.opened ≡ true) where
     pub misfits : outside (length p) ≡ true → Sends R c ram dir (record { card = c; driver = d; answer = Refused LengthOutside }) ram dir
-    unfolding run sendTalk
+    unfolding run send_talk
     misfits h = refused LengthOutside (rw (o, h))
 
     module _ (h : outside (length p) ≡ false) where
       pub many : 15 < d.unreported → Sends R c ram dir (record { card = c; driver = d; answer = Refused SixteenUnreported }) ram dir
-      unfolding run sendTalk
+      unfolding run send_talk
       many u = refused SixteenUnreported (rw (o, h, lt-ltb 15 d.unreported u))
 
       module _ (u : d.unreported ≤ 15) (v₁ : ℕ) (s₁ : Adapter) (e₁ : access (ReadWord 14) (view c ram dir) ≡ step v₁ s₁) where
         pub unfits : unfit v₁ ≡ true → Sends R c ram dir (record { card = c; driver = d; answer = Refused CardUnfit }) ram dir
-        unfolding run sendTalk
+        unfolding run send_talk
         unfits w = refused CardUnfit (rw (o, h, le-ltb 15 d.unreported u, e₁, w))
 
         module _ (w : unfit v₁ ≡ false) (v₂ : ℕ) (s₂ : Adapter) (e₂ : access (ReadWord 12) s₁ ≡ step v₂ s₂) where
           -- refused for room, a send has read two words and written none
-          nothing_written : lacksRoom v₂ (length p) ≡ true → R.made ≡ ReadWord 14 ∷ (ReadWord 12 ∷ [])
-          unfolding run sendTalk
+          nothing_written : lacks_room v₂ (length p) ≡ true → R.made ≡ ReadWord 14 ∷ (ReadWord 12 ∷ [])
+          unfolding run send_talk
           nothing_written f = rw (o, h, le-ltb 15 d.unreported u, e₁, w, e₂, f)
 
-          pub full : lacksRoom v₂ (length p) ≡ true → Sends R c ram dir (record { card = c; driver = d; answer = Refused NoRoom }) ram dir
-          unfolding run sendTalk
+          pub full : lacks_room v₂ (length p) ≡ true → Sends R c ram dir (record { card = c; driver = d; answer = Refused NoRoom }) ram dir
+          unfolding run send_talk
           full f = refused NoRoom (rw (o, h, le-ltb 15 d.unreported u, e₁, w, e₂, f))
 
-          pub taken : lacksRoom v₂ (length p) ≡ false → (e : Card) (ram' dir' : List ℕ) → Stands e ram' dir' (afterWrites (packetWords p) s₂)
+          pub taken : lacks_room v₂ (length p) ≡ false → (e : Card) (ram' dir' : List ℕ) → Stands e ram' dir' (after_writes (packet_words p) s₂)
               → Sends R c ram dir (record { card = e; driver = (ticketed d).driver; answer = Ticket d.sent }) ram' dir'
-          unfolding run sendTalk
+          unfolding run send_talk
           taken f e ram' dir' last =
-              rw (o, h, le-ltb 15 d.unreported u, e₁, w, e₂, f, writes-law)
+              rw (o, h, le-ltb 15 d.unreported u, e₁, w, e₂, f, writes_law)
               (record { answer = refl; driver = refl; taken = λ _. last; kept = λ n. never n })

@@ -27,6 +27,6 @@ module _ (R Q : Ran Serving) (c₀ c : Card) (ram₀ dir₀ ram dir : List ℕ) 
       }
 
   -- paused, the run has made a discard
-  pub unmoved-more : discarded Q.made ≡ true → (Q' : Ran Serving) (c' : Card) (ram' dir' : List ℕ) → First R Q' c₀ c' ram₀ dir₀ ram' dir'
-  unmoved-more y Q' c' ram' dir' =
+  pub unmoved_more : discarded Q.made ≡ true → (Q' : Ran Serving) (c' : Card) (ram' dir' : List ℕ) → First R Q' c₀ c' ram₀ dir₀ ram' dir'
+  unmoved_more y Q' c' ram' dir' =
       record { whole = λ n. never (sym n ∙ (ap (λ (T : Ran Serving). discarded T.made) (F.whole n).0 ∙ y)) }

@@ -10,29 +10,29 @@ use lib.ListN.{take}
 use Rattle.refusal.specs.declared.Refusal.TheVariants.{CardUnfit, BudgetShort}
 use Rattle.refusal.specs.Number.{number_of}
 use Rattle.bits.specs.Bits.{has}
-use Rattle.bits.proofs.Tests.{of-cond, by-test, never, neither}
+use Rattle.bits.proofs.Tests.{of_cond, by_test, never, neither}
 use Rattle.receive_rules.specs.Frame.{Rx, Frame}
 use Rattle.receive_rules.specs.Reading as reading
 use Rattle.card_rules.specs.Adapter.{Adapter}
-use Rattle.card_rules.specs.Update.{withRx}
+use Rattle.card_rules.specs.Update.{with_rx}
 use Rattle.card_rules.specs.Status.{failure, flags}
 use Rattle.card_rules.specs.Settle.{settle}
 use Rattle.card_rules.specs.Command.{command, commanded}
-use Rattle.card_rules.specs.Read.{word_at, afterWord}
-use Rattle.card_rules.specs.Write.{writeWord}
+use Rattle.card_rules.specs.Read.{word_at, after_word}
+use Rattle.card_rules.specs.Write.{write_word}
 use Rattle.card_rules.specs.Access.{Access, ReadWord, WriteWord, Step, effect, access}
 use Rattle.card_rules.proofs.StepEnds.{asleep, awake}
 use Rattle.driver_rules.specs.declared.Driver.{Driver}
-use Rattle.driver_rules.specs.Registers.{unfit, txComplete, rxComplete, rxDiscard, bad, lengthIn}
-use Rattle.driver_rules.specs.Talk.{Talk, done, ask, order, run, readWords}
+use Rattle.driver_rules.specs.Registers.{unfit, tx_complete, rx_complete, rx_discard, bad, length_in}
+use Rattle.driver_rules.specs.Talk.{Talk, done, ask, order, run, read_words}
 use Rattle.driver_rules.proofs.Status.{unfit-status}
 use Rattle.driver_rules.specs.declared.Answer.{Answer}
 use Rattle.driver_rules.specs.declared.Answer.TheVariants.{Reported, Status, Idle, Refused}
 use Rattle.driver_rules.specs.declared.Answer.TheVariants as answer
-use Rattle.driver_rules.specs.Driver.{oldestTicket, withError}
-use Rattle.driver_rules.specs.Items.{Serving, plain, short, seen, isError, reports, reportTalk, idleTalk, fetchTalk, words_in}
-use Rattle.driver_rules.specs.Service.{lookTalk, receiveTalk, dropTalk}
-use Rattle.driver_rules.specs.Unfit.{Unfit-comes-at-once}
+use Rattle.driver_rules.specs.Driver.{oldest_ticket, with_error}
+use Rattle.driver_rules.specs.Items.{Serving, plain, short, seen, is_error, reports, report_talk, idle_talk, fetch_talk, words_in}
+use Rattle.driver_rules.specs.Service.{look_talk, receive_talk, drop_talk}
+use Rattle.driver_rules.specs.Unfit.{UnfitComesAtOnce}
 
 -- ---- talks that never answer 5, whatever is read
 
@@ -64,33 +64,33 @@ short-ends : (d : Driver) → Never (done (short d))
 unfolding number
 short-ends d = ends (not_five (Refused BudgetShort) (λ e. omega arith))
 
-reports-never : (status : ℕ) (d : Driver) → Never (done (reports status d))
+reports_never : (status : ℕ) (d : Driver) → Never (done (reports status d))
 unfolding reports number
-reports-never status d =
-    of-cond (λ (x : Serving). Never (done x)) (ltb 0 d.unreported) (ends (not_five (Reported (oldestTicket d) status) (λ e. omega arith))) (ends (not_five (Status status) (λ e. omega arith)))
+reports_never status d =
+    of_cond (λ (x : Serving). Never (done x)) (ltb 0 d.unreported) (ends (not_five (Reported (oldest_ticket d) status) (λ e. omega arith))) (ends (not_five (Status status) (λ e. omega arith)))
 
-report-never : (left : ℕ) (d : Driver) → Never (reportTalk left d)
-unfolding reportTalk
-report-never left d =
-    of-cond Never (ltb left 4) (short-ends d)
+report_never : (left : ℕ) (d : Driver) → Never (report_talk left d)
+unfolding report_talk
+report_never left d =
+    of_cond Never (ltb left 4) (short-ends d)
     (asks (λ status. asks (λ _. asks (λ next.
-    of-cond Never ((d.error || isError status) && eqb next 0) (asks (λ _. reports-never status (withError false d))) (reports-never status (seen d status))))))
+    of_cond Never ((d.error || is_error status) && eqb next 0) (asks (λ _. reports_never status (with_error false d))) (reports_never status (seen d status))))))
 
-idle-never : (left : ℕ) (d : Driver) → Never (idleTalk left d)
-unfolding idleTalk number
-idle-never zero d = short-ends d
-idle-never (suc left) d = asks (λ _. ends (not_five Idle (λ e. omega arith)))
+idle_never : (left : ℕ) (d : Driver) → Never (idle_talk left d)
+unfolding idle_talk number
+idle_never zero d = short-ends d
+idle_never (suc left) d = asks (λ _. ends (not_five Idle (λ e. omega arith)))
 
-words-never : (w : ℕ) (k : List ℕ → Talk Serving) → ((bytes : List ℕ) → Never (k bytes)) → Never (readWords w k)
-unfolding readWords
-words-never zero k h = h []
-words-never (suc w) k h = asks (λ v. words-never w (λ bytes. k (v % 256 ∷ (v / 256 ∷ bytes))) (λ bytes. h (v % 256 ∷ (v / 256 ∷ bytes))))
+words_never : (w : ℕ) (k : List ℕ → Talk Serving) → ((bytes : List ℕ) → Never (k bytes)) → Never (read_words w k)
+unfolding read_words
+words_never zero k h = h []
+words_never (suc w) k h = asks (λ v. words_never w (λ bytes. k (v % 256 ∷ (v / 256 ∷ bytes))) (λ bytes. h (v % 256 ∷ (v / 256 ∷ bytes))))
 
-fetch-never : (left : ℕ) (d : Driver) (n : ℕ) → Never (fetchTalk left d n)
-unfolding fetchTalk number
-fetch-never left d n =
-    of-cond Never (ltb left (words_in n + 1)) (short-ends d)
-    (words-never (words_in n) (λ bytes. order rxDiscard 0 (done (record { answer = answer.Frame n; driver = d; bytes = take n bytes })))
+fetch_never : (left : ℕ) (d : Driver) (n : ℕ) → Never (fetch_talk left d n)
+unfolding fetch_talk number
+fetch_never left d n =
+    of_cond Never (ltb left (words_in n + 1)) (short-ends d)
+    (words_never (words_in n) (λ bytes. order rx_discard 0 (done (record { answer = answer.Frame n; driver = d; bytes = take n bytes })))
     (λ bytes. asks (λ _. ends (not_five (answer.Frame n) (λ e. omega arith)))))
 
 -- ---- a fit card stays fit
@@ -107,33 +107,33 @@ fit-status a f =
     ∙ ap (λ (w : ℕ). not (eqb w 1) || has 2 a.select.zero && failure a) f.window ∙ f.hidden
 
 -- settle changes neither the window, the mask nor a failure
-fit-settled : (a : Adapter) → Fit a → Fit (settle a)
+fit_settled : (a : Adapter) → Fit a → Fit (settle a)
 unfolding settle
-fit-settled a f = record { active = f.active; window = f.window; hidden = f.hidden }
+fit_settled a f = record { active = f.active; window = f.window; hidden = f.hidden }
 
 fit-read : (a : Adapter) → Fit a → Fit (access (ReadWord 14) a).adapter
-unfolding effect afterWord
-fit-read a f = subst⁻¹ (λ (t : Step). Fit t.adapter) (awake (ReadWord 14) a f.active) (fit-settled a f)
+unfolding effect after_word
+fit-read a f = subst⁻¹ (λ (t : Step). Fit t.adapter) (awake (ReadWord 14) a f.active) (fit_settled a f)
 
 fit-rx : (a : Adapter) → Fit a → Fit (access (ReadWord 8) a).adapter
-unfolding effect afterWord
-fit-rx a f = subst⁻¹ (λ (t : Step). Fit t.adapter) (awake (ReadWord 8) a f.active) (fit-settled a f)
+unfolding effect after_word
+fit-rx a f = subst⁻¹ (λ (t : Step). Fit t.adapter) (awake (ReadWord 8) a f.active) (fit_settled a f)
 
 -- a discard leaves a failure as it was
-without-failed : (x : Rx) (fs : List Frame) → (reading.withoutOldest x fs).receiver.failed ≡ x.receiver.failed
-unfolding reading.withoutOldest
-without-failed x [] = refl
-without-failed x (g ∷ fs) = refl
+without_failed : (x : Rx) (fs : List Frame) → (reading.without_oldest x fs).receiver.failed ≡ x.receiver.failed
+unfolding reading.without_oldest
+without_failed x [] = refl
+without_failed x (g ∷ fs) = refl
 
 discard-failed : (x : Rx) → (reading.discard x).receiver.failed ≡ x.receiver.failed
 unfolding reading.discard
-discard-failed x = of-cond (λ (y : Rx). y.receiver.failed ≡ x.receiver.failed) x.receiver.failed refl (without-failed x x.frames)
+discard-failed x = of_cond (λ (y : Rx). y.receiver.failed ≡ x.receiver.failed) x.receiver.failed refl (without_failed x x.frames)
 
-discarded : (a : Adapter) → a.select.window ≡ 1 → writeWord 14 16384 a ≡ withRx (reading.discard a.rx) a
-unfolding writeWord commanded command
-discarded a w = ap (λ (n : ℕ). cond (eqb n 0) a (withRx (reading.discard a.rx) a)) w
+discarded : (a : Adapter) → a.select.window ≡ 1 → write_word 14 16384 a ≡ with_rx (reading.discard a.rx) a
+unfolding write_word commanded command
+discarded a w = ap (λ (n : ℕ). cond (eqb n 0) a (with_rx (reading.discard a.rx) a)) w
 
-fit-discarded : (a : Adapter) → Fit a → Fit (withRx (reading.discard a.rx) a)
+fit-discarded : (a : Adapter) → Fit a → Fit (with_rx (reading.discard a.rx) a)
 fit-discarded a f =
     record {
       active = f.active;
@@ -145,49 +145,49 @@ fit-discard : (a : Adapter) → Fit a → Fit (access (WriteWord 14 16384) a).ad
 unfolding effect
 fit-discard a f =
     subst⁻¹ (λ (t : Step). Fit t.adapter) (awake (WriteWord 14 16384) a f.active)
-    (subst⁻¹ (λ (b : Adapter). Fit (settle b)) (discarded a f.window) (fit-settled (withRx (reading.discard a.rx) a) (fit-discarded a f)))
+    (subst⁻¹ (λ (b : Adapter). Fit (settle b)) (discarded a f.window) (fit_settled (with_rx (reading.discard a.rx) a) (fit-discarded a f)))
 
 mutual
-  unfolding lookTalk receiveTalk dropTalk run Safe
+  unfolding look_talk receive_talk drop_talk run Safe
 
-  look-safe : (n : ℕ) (d : Driver) (a : Adapter) → Fit a → Safe (lookTalk n d) a
-  look-safe zero d a f = safe (done (short d)) (short-ends d) a
-  look-safe (suc left) d a f =
+  look_safe : (n : ℕ) (d : Driver) (a : Adapter) → Fit a → Safe (look_talk n d) a
+  look_safe zero d a f = safe (done (short d)) (short-ends d) a
+  look_safe (suc left) d a f =
       let status : ℕ = (access (ReadWord 14) a).value in
       let b : Adapter = (access (ReadWord 14) a).adapter in
-      let rest : Talk Serving = cond (txComplete status) (reportTalk left d) (cond (rxComplete status) (receiveTalk left d) (idleTalk left d)) in
+      let rest : Talk Serving = cond (tx_complete status) (report_talk left d) (cond (rx_complete status) (receive_talk left d) (idle_talk left d)) in
       let goes : Safe rest b =
-      of-cond (λ (t : Talk Serving). Safe t b) (txComplete status) (safe (reportTalk left d) (report-never left d) b)
-      (of-cond (λ (t : Talk Serving). Safe t b) (rxComplete status) (receive-safe left d b (fit-read a f)) (safe (idleTalk left d) (idle-never left d) b)) in
+      of_cond (λ (t : Talk Serving). Safe t b) (tx_complete status) (safe (report_talk left d) (report_never left d) b)
+      (of_cond (λ (t : Talk Serving). Safe t b) (rx_complete status) (receive_safe left d b (fit-read a f)) (safe (idle_talk left d) (idle_never left d) b)) in
       subst⁻¹ (λ (u : Bool). Safe (cond u (done (plain (Refused CardUnfit) d)) rest) b) (fit-status a f) goes
 
-  receive-safe : (n : ℕ) (d : Driver) (a : Adapter) → Fit a → Safe (receiveTalk n d) a
-  receive-safe zero d a f = safe (done (short d)) (short-ends d) a
-  receive-safe (suc left) d a f =
+  receive_safe : (n : ℕ) (d : Driver) (a : Adapter) → Fit a → Safe (receive_talk n d) a
+  receive_safe zero d a f = safe (done (short d)) (short-ends d) a
+  receive_safe (suc left) d a f =
       let rx : ℕ = (access (ReadWord 8) a).value in
       let b : Adapter = (access (ReadWord 8) a).adapter in
-      of-cond (λ (t : Talk Serving). Safe t b) (bad rx) (drop-safe left d b (fit-rx a f)) (safe (fetchTalk left d (lengthIn rx)) (fetch-never left d (lengthIn rx)) b)
+      of_cond (λ (t : Talk Serving). Safe t b) (bad rx) (drop_safe left d b (fit-rx a f)) (safe (fetch_talk left d (length_in rx)) (fetch_never left d (length_in rx)) b)
 
-  drop-safe : (n : ℕ) (d : Driver) (a : Adapter) → Fit a → Safe (dropTalk n d) a
-  drop-safe zero d a f = safe (done (short d)) (short-ends d) a
-  drop-safe (suc left) d a f = look-safe left d (access (WriteWord 14 16384) a).adapter (fit-discard a f)
+  drop_safe : (n : ℕ) (d : Driver) (a : Adapter) → Fit a → Safe (drop_talk n d) a
+  drop_safe zero d a f = safe (done (short d)) (short-ends d) a
+  drop_safe (suc left) d a f = look_safe left d (access (WriteWord 14 16384) a).adapter (fit-discard a f)
 
 -- ---- a card that shows a fit Status is fit
 
 fit-shown : (a : Adapter) → unfit (access (ReadWord 14) a).value ≡ false → Fit a
 unfolding effect word_at
 fit-shown a e =
-    by-test a.id.active
+    by_test a.id.active
     (λ y.
     let h = neither (not (eqb a.select.window 1)) (has 2 a.select.zero && failure a)
     (sym (unfit-status a.select (flags a)) ∙ sym (ap (λ (t : Step). unfit t.value) (awake (ReadWord 14) a y)) ∙ e) in
     record { active = y; window = eqb-true a.select.window 1 (not-false (eqb a.select.window 1) h.0); hidden = h.1 })
     (λ n. never (sym (sym (ap (λ (t : Step). unfit t.value) (asleep (ReadWord 14) a n)) ∙ e)))
 
-pub unfit-at-once : Unfit-comes-at-once
-unfolding lookTalk run Safe
-unfit-at-once zero d a e = absurd (safe (done (short d)) (short-ends d) a e)
-unfit-at-once (suc left) d a e =
-    by-test (unfit (access (ReadWord 14) a).value)
+pub unfit_at_once : UnfitComesAtOnce
+unfolding look_talk run Safe
+unfit_at_once zero d a e = absurd (safe (done (short d)) (short-ends d) a e)
+unfit_at_once (suc left) d a e =
+    by_test (unfit (access (ReadWord 14) a).value)
     (λ y. rw y)
-    (λ n. absurd (look-safe (suc left) d a (fit-shown a n) e))
+    (λ n. absurd (look_safe (suc left) d a (fit-shown a n) e))

@@ -5,7 +5,7 @@ use mathlib.Core.Bool.{false, ◌&&◌}
 use mathlib.Core.List.{List, [], ◌∷◌}
 use Prim.Native.Nat.{ℕ}
 use lib.Dec.{ltb, eqb}
-use Rattle.bits.proofs.Tests.{by-test, never, of-cond}
+use Rattle.bits.proofs.Tests.{by_test, never, of_cond}
 use Rattle.card_rules.specs.declared.Card.{Card}
 use Rattle.card_rules.specs.Adapter.{Adapter}
 use Rattle.card_rules.specs.View.{view, Sound}
@@ -21,20 +21,20 @@ use Rattle.driver_rules.specs.Meets.{Ended}
 use Rattle.driver_rules.specs.Serves.{discarded, stopped, Unmoved}
 
 -- reading a word that isn't the data port's leaves a sound card as it was
-reads-still : (o : ℕ) (c : Card) (ram dir : List ℕ) → (ltb o 4 && eqb c.select.window 1) ≡ false → Sound c ram dir → (access (ReadWord o) (view c ram dir)).adapter ≡ view c ram dir
-reads-still o c ram dir n s =
-    by-test c.id.active
+reads_still : (o : ℕ) (c : Card) (ram dir : List ℕ) → (ltb o 4 && eqb c.select.window 1) ≡ false → Sound c ram dir → (access (ReadWord o) (view c ram dir)).adapter ≡ view c ram dir
+reads_still o c ram dir n s =
+    by_test c.id.active
     (λ e. sym (gives-word c ram dir s o (word_at o (view c ram dir)) e n refl).stands.shows)
     (λ e. sym (stands-ones c ram dir s (ReadWord o) e).shows)
 
-pub as-came : (o : ℕ) (c : Card) (ram dir : List ℕ) {r : Card} {v : ℕ} → (ltb o 4 && eqb c.select.window 1) ≡ false → Sound c ram dir
+pub as_came : (o : ℕ) (c : Card) (ram dir : List ℕ) {r : Card} {v : ℕ} → (ltb o 4 && eqb c.select.window 1) ≡ false → Sound c ram dir
     → Gives r v ram dir (access (ReadWord o) (view c ram dir)) → access (ReadWord o) (view c ram dir) ≡ step v (view c ram dir)
-as-came o c ram dir n s g = λ i. record { value = sym g.value i; adapter = reads-still o c ram dir n s i }
+as_came o c ram dir n s g = λ i. record { value = sym g.value i; adapter = reads_still o c ram dir n s i }
 
 -- a report is no refusal
-pub report-goes : (status : ℕ) (d : Driver) → stopped (reports status d).answer ≡ false
+pub report_goes : (status : ℕ) (d : Driver) → stopped (reports status d).answer ≡ false
 unfolding reports
-report-goes status d = of-cond (λ (x : Serving). stopped x.answer ≡ false) (ltb 0 d.unreported) refl refl
+report_goes status d = of_cond (λ (x : Serving). stopped x.answer ≡ false) (ltb 0 d.unreported) refl refl
 
 -- what was handed in is handed back
 pub stays : (R : Ran Serving) (c : Card) (ram dir : List ℕ) → Unmoved R c c ram dir ram dir
@@ -46,9 +46,9 @@ module _ (c r : Card) (ram dir ram' dir' : List ℕ) where
   begun t e = record { same = λ y _. never (sym (sym (ap stopped t.answer) ∙ e) ∙ y) }
 
   -- a word was read before
-  pub after_read : (R Q : Ran Serving) (o : ℕ) → R ≡ extended (ReadWord o ∷ []) Q → Unmoved Q c r ram dir ram' dir' → Unmoved R c r ram dir ram' dir'
+  pub after_read_lem : (R Q : Ran Serving) (o : ℕ) → R ≡ extended (ReadWord o ∷ []) Q → Unmoved Q c r ram dir ram' dir' → Unmoved R c r ram dir ram' dir'
   unfolding discarded
-  after_read R Q o e u = rw e (record { same = u.same })
+  after_read_lem R Q o e u = rw e (record { same = u.same })
 
   -- a bad frame was discarded
   pub after-discard : (R Q : Ran Serving) → R ≡ extended (ReadWord 8 ∷ (WriteWord 14 16384 ∷ [])) Q → Unmoved R c r ram dir ram' dir'

@@ -6,11 +6,11 @@ abbrev pub laid : List ℕ → List ℕ → List ℕ
 laid bytes area = bytes ++ drop (length bytes) area
 
 -- Up to 256 bytes land in the lookahead area, more in the frame area.
-abbrev pub isShort : ℕ → Bool
-isShort n = leb n 256
+abbrev pub is_short : ℕ → Bool
+is_short n = leb n 256
 
-unfoldable pub inLook : List ℕ → List ℕ → List ℕ
-inLook bytes area = cond (isShort (length bytes)) (laid bytes area) area
+unfoldable pub in_look : List ℕ → List ℕ → List ℕ
+in_look bytes area = cond (is_short (length bytes)) (laid bytes area) area
 
-unfoldable pub inFrame : List ℕ → List ℕ → List ℕ
-inFrame bytes area = cond (isShort (length bytes)) area (laid bytes area)
+unfoldable pub in_frame : List ℕ → List ℕ → List ℕ
+in_frame bytes area = cond (is_short (length bytes)) area (laid bytes area)

@@ -3,11 +3,11 @@ use Rattle.std.specs.Prelude.{Bool, true, false, ℕ, ◌+◌, ◌-◌, ◌%◌,
 use Rattle.driver_rules.specs.declared.Driver.{Driver}
 
 -- At most sixteen packets are unreported.
-abbrev pub driverSound : Driver → Bool
-driverSound d = leb d.unreported 16
+abbrev pub driver_sound : Driver → Bool
+driver_sound d = leb d.unreported 16
 
-abbrev pub neverOpened : Driver
-neverOpened = record { opened = false; sent = 0; unreported = 0; error = false }
+abbrev pub never_opened : Driver
+never_opened = record { opened = false; sent = 0; unreported = 0; error = false }
 
 -- A second open keeps unreported packets; TX Enable forgets an error.
 abbrev pub opening : Driver → Driver
@@ -18,12 +18,12 @@ abbrev pub sending : Driver → Driver
 sending d = record { opened = d.opened; sent = (d.sent + 1) % 65536; unreported = d.unreported + 1; error = d.error }
 
 -- The oldest unreported ticket.
-abbrev pub oldestTicket : Driver → ℕ
-oldestTicket d = (d.sent + 65536 - d.unreported) % 65536
+abbrev pub oldest_ticket : Driver → ℕ
+oldest_ticket d = (d.sent + 65536 - d.unreported) % 65536
 
 -- The oldest unreported packet was reported.
 abbrev pub reporting : Driver → Driver
 reporting d = record { opened = d.opened; sent = d.sent; unreported = d.unreported - 1; error = d.error }
 
-abbrev pub withError : Bool → Driver → Driver
-withError e d = record { opened = d.opened; sent = d.sent; unreported = d.unreported; error = e }
+abbrev pub with_error : Bool → Driver → Driver
+with_error e d = record { opened = d.opened; sent = d.sent; unreported = d.unreported; error = e }

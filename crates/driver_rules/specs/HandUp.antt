@@ -1,7 +1,7 @@
 -- The part of the two areas that is handed up. Assumes nothing.
 use Rattle.std.specs.Prelude.{◌≡◌, Bool, true, false, cond, List, [], ℕ, length, take, leb}
 use Rattle.std.specs.Borrow.{Bor}
-use Rattle.driver_rules.specs.Areas.{isShort}
+use Rattle.driver_rules.specs.Areas.{is_short}
 
 abbrev pub pick : {A : Type 0} → Bool → A → A → A
 pick true a b = a
@@ -9,7 +9,7 @@ pick false a b = b
 
 -- Up to 256 bytes lie in the lookahead area, more in the frame area.
 abbrev pub area : {A : Type 0} → ℕ → A → A → A
-area n look frame = pick (isShort n) look frame
+area n look frame = pick (is_short n) look frame
 
 -- the first n bytes of an area, or none if it does not hold n
 abbrev pub front : ℕ → List ℕ → List ℕ

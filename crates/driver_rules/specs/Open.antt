@@ -2,8 +2,8 @@
 use Rattle.std.specs.Prelude.{Bool, true, false, List, [], ◌∷◌, ◌++◌, ℕ, ◌+◌, ◌/◌, ◌%◌}
 use Rattle.card_rules.specs.Access.{Access, WriteWord, WriteByte}
 use Rattle.driver_rules.specs.declared.Driver.{Driver}
-use Rattle.driver_rules.specs.Registers.{commandPort, selectWindow, rxFilter, readZero, interruptMask, rxEnable, txEnable}
-use Rattle.driver_rules.specs.Talk.{Talk, done, writeByte, order}
+use Rattle.driver_rules.specs.Registers.{command_port, select_window, rx_filter, read_zero, interrupt_mask, rx_enable, tx_enable}
+use Rattle.driver_rules.specs.Talk.{Talk, done, write_byte, order}
 use Rattle.driver_rules.specs.Driver.{opening}
 use Rattle.driver_rules.specs.declared.OpenAnswer.{OpenAnswer}
 use Rattle.driver_rules.specs.declared.OpenAnswer.TheVariants.{Done, Refused}
@@ -14,36 +14,36 @@ pub record Opening : Type 0 where
   pub driver : Driver
 
 -- Select window 2; write the six address bytes, words 00h-02h as the caller hands them in, high byte first; select window 1; filter 5; Read Zero FFh; interrupt mask 0; RX Enable; TX Enable.
-unfoldable pub openTalk : Driver → ℕ → ℕ → ℕ → Talk Opening
-openTalk d w₀ w₁ w₂ =
-    order selectWindow 2
-    (writeByte 0 (w₀ / 256) (writeByte 1 (w₀ % 256)
-    (writeByte 2 (w₁ / 256) (writeByte 3 (w₁ % 256)
-    (writeByte 4 (w₂ / 256) (writeByte 5 (w₂ % 256)
-    (order selectWindow 1
-    (order rxFilter 5
-    (order readZero 0xFF
-    (order interruptMask 0
-    (order rxEnable 0
-    (order txEnable 0
+unfoldable pub open_talk : Driver → ℕ → ℕ → ℕ → Talk Opening
+open_talk d w₀ w₁ w₂ =
+    order select_window 2
+    (write_byte 0 (w₀ / 256) (write_byte 1 (w₀ % 256)
+    (write_byte 2 (w₁ / 256) (write_byte 3 (w₁ % 256)
+    (write_byte 4 (w₂ / 256) (write_byte 5 (w₂ % 256)
+    (order select_window 1
+    (order rx_filter 5
+    (order read_zero 0xFF
+    (order interrupt_mask 0
+    (order rx_enable 0
+    (order tx_enable 0
     (done (record { answer = Done; driver = opening d }))))))))))))))
 
 -- ---- the same accesses in the parts that the code takes
 
 abbrev pub command : ℕ → Access
-command v = WriteWord commandPort v
+command v = WriteWord command_port v
 
-abbrev pub pairWrites : ℕ → ℕ → List Access
-pairWrites o w = WriteByte o (w / 256) ∷ (WriteByte (o + 1) (w % 256) ∷ [])
+abbrev pub pair_writes : ℕ → ℕ → List Access
+pair_writes o w = WriteByte o (w / 256) ∷ (WriteByte (o + 1) (w % 256) ∷ [])
 
-abbrev pub addressWrites : ℕ → ℕ → ℕ → List Access
-addressWrites w₀ w₁ w₂ = (command (selectWindow + 2) ∷ []) ++ (pairWrites 0 w₀ ++ (pairWrites 2 w₁ ++ pairWrites 4 w₂))
+abbrev pub address_writes : ℕ → ℕ → ℕ → List Access
+address_writes w₀ w₁ w₂ = (command (select_window + 2) ∷ []) ++ (pair_writes 0 w₀ ++ (pair_writes 2 w₁ ++ pair_writes 4 w₂))
 
-abbrev pub maskWrites : List Access
-maskWrites = command (selectWindow + 1) ∷ (command (rxFilter + 5) ∷ (command (readZero + 0xFF) ∷ []))
+abbrev pub mask_writes : List Access
+mask_writes = command (select_window + 1) ∷ (command (rx_filter + 5) ∷ (command (read_zero + 0xFF) ∷ []))
 
-abbrev pub enableWrites : List Access
-enableWrites = command interruptMask ∷ (command rxEnable ∷ (command txEnable ∷ []))
+abbrev pub enable_writes : List Access
+enable_writes = command interrupt_mask ∷ (command rx_enable ∷ (command tx_enable ∷ []))
 
 abbrev pub refusing : OpenAnswer → Bool
 refusing Done = false

@@ -8,9 +8,9 @@ abbrev pub outside : ℕ → Bool
 outside n = ltb n 14 || ltb 1514 n
 
 -- TX Free below 4 and the length rounded up to 4
-abbrev pub lacksRoom : ℕ → ℕ → Bool
-lacksRoom free n = ltb free (4 + round4 n)
+abbrev pub lacks_room : ℕ → ℕ → Bool
+lacks_room free n = ltb free (4 + round4 n)
 
 -- Both preamble words with bit 15, the data padded with zeros to 4.
-abbrev pub packetWords : List ℕ → List ℕ
-packetWords packet = (0x8000 + length packet) ∷ (0 ∷ words_of (round4 (length packet) / 2) packet)
+abbrev pub packet_words : List ℕ → List ℕ
+packet_words packet = (0x8000 + length packet) ∷ (0 ∷ words_of (round4 (length packet) / 2) packet)

@@ -13,24 +13,24 @@ pub data Paper : Type 0 where
   ticket : ℕ → Paper
   -- service tells the accesses used, as its last value
   report : ℕ → ℕ → ℕ → Paper
-  statusAlone : ℕ → ℕ → Paper
+  status_alone : ℕ → ℕ → Paper
   frame : ℕ → ℕ → Paper
   idle : ℕ → Paper
   short : ℕ → Paper
   -- every other refusal tells its number alone
   refused : ℕ → Paper
 
-abbrev pub openPaper : OpenAnswer → Paper
-openPaper opening.Done = opened
-openPaper (opening.Refused why) = refused (number_of why)
+abbrev pub open_paper : OpenAnswer → Paper
+open_paper opening.Done = opened
+open_paper (opening.Refused why) = refused (number_of why)
 
-abbrev pub sendPaper : SendAnswer → Paper
-sendPaper (sending.Ticket n) = ticket n
-sendPaper (sending.Refused why) = refused (number_of why)
+abbrev pub send_paper : SendAnswer → Paper
+send_paper (sending.Ticket n) = ticket n
+send_paper (sending.Refused why) = refused (number_of why)
 
-abbrev pub servicePaper : Answer → ℕ → Paper
-servicePaper (serving.Reported t s) used = report t s used
-servicePaper (serving.Status s) used = statusAlone s used
-servicePaper (serving.Frame n) used = frame n used
-servicePaper serving.Idle used = idle used
-servicePaper (serving.Refused why) used = cond (eqb (number_of why) 6) (short used) (refused (number_of why))
+abbrev pub service_paper : Answer → ℕ → Paper
+service_paper (serving.Reported t s) used = report t s used
+service_paper (serving.Status s) used = status_alone s used
+service_paper (serving.Frame n) used = frame n used
+service_paper serving.Idle used = idle used
+service_paper (serving.Refused why) used = cond (eqb (number_of why) 6) (short used) (refused (number_of why))

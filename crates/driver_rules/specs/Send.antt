@@ -3,9 +3,9 @@ use Rattle.std.specs.Prelude.{Bool, true, false, cond, not, List, ℕ, length, l
 use Rattle.refusal.specs.declared.Refusal.{Refusal}
 use Rattle.refusal.specs.declared.Refusal.TheVariants.{NeverOpened, LengthOutside, SixteenUnreported, CardUnfit, NoRoom}
 use Rattle.driver_rules.specs.declared.Driver.{Driver}
-use Rattle.driver_rules.specs.Registers.{statusPort, txFree, unfit}
-use Rattle.driver_rules.specs.Talk.{Talk, done, readWord, writeWords}
-use Rattle.driver_rules.specs.Packet.{outside, lacksRoom, packetWords}
+use Rattle.driver_rules.specs.Registers.{status_port, tx_free, unfit}
+use Rattle.driver_rules.specs.Talk.{Talk, done, read_word, write_words}
+use Rattle.driver_rules.specs.Packet.{outside, lacks_room, packet_words}
 use Rattle.driver_rules.specs.Driver.{sending}
 use Rattle.driver_rules.specs.declared.SendAnswer.{SendAnswer}
 use Rattle.driver_rules.specs.declared.SendAnswer.TheVariants.{Ticket, Refused}
@@ -23,16 +23,16 @@ abbrev pub ticketed : Driver → Sending
 ticketed d = record { answer = Ticket d.sent; driver = sending d }
 
 -- Refusals 13, 2 and 3; read Status, refusal 5; read TX Free, refusal 4; the words.
-unfoldable pub sendTalk : Driver → List ℕ → Talk Sending
-sendTalk d packet =
+unfoldable pub send_talk : Driver → List ℕ → Talk Sending
+send_talk d packet =
     cond (not d.opened) (done (refuses d NeverOpened))
     (cond (outside (length packet)) (done (refuses d LengthOutside))
     (cond (ltb 15 d.unreported) (done (refuses d SixteenUnreported))
-    (readWord statusPort (λ status.
+    (read_word status_port (λ status.
     cond (unfit status) (done (refuses d CardUnfit))
-    (readWord txFree (λ free.
-    cond (lacksRoom free (length packet)) (done (refuses d NoRoom))
-    (writeWords (packetWords packet) (done (ticketed d)))))))))
+    (read_word tx_free (λ free.
+    cond (lacks_room free (length packet)) (done (refuses d NoRoom))
+    (write_words (packet_words packet) (done (ticketed d)))))))))
 
 abbrev pub refusing : SendAnswer → Bool
 refusing (Ticket n) = false

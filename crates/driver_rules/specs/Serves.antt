@@ -3,25 +3,25 @@ use Rattle.std.specs.Prelude.{◌≡◌, Bool, true, false, ◌&&◌, ◌||◌, 
 use Rattle.card_rules.specs.declared.Card.{Card}
 use Rattle.card_rules.specs.Adapter.{Adapter}
 use Rattle.card_rules.specs.Access.{Access, ReadWord, ReadByte, WriteWord, WriteByte}
-use Rattle.driver_rules.specs.Registers.{commandPort, rxDiscard}
+use Rattle.driver_rules.specs.Registers.{command_port, rx_discard}
 use Rattle.driver_rules.specs.Talk.{Ran, run}
 use Rattle.driver_rules.specs.declared.Served.{Served}
 use Rattle.driver_rules.specs.declared.Answer.{Answer}
 use Rattle.driver_rules.specs.declared.Answer.TheVariants.{Reported, Status, Frame, Idle, Refused}
 use Rattle.driver_rules.specs.Items.{Serving}
 use Rattle.driver_rules.specs.Meets.{Ended}
-use Rattle.driver_rules.specs.Service.{lookTalk}
+use Rattle.driver_rules.specs.Service.{look_talk}
 
-abbrev pub isDiscard : Access → Bool
-isDiscard (ReadWord o) = false
-isDiscard (ReadByte o) = false
-isDiscard (WriteWord o v) = eqb o commandPort && eqb v rxDiscard
-isDiscard (WriteByte o v) = false
+abbrev pub is_discard : Access → Bool
+is_discard (ReadWord o) = false
+is_discard (ReadByte o) = false
+is_discard (WriteWord o v) = eqb o command_port && eqb v rx_discard
+is_discard (WriteByte o v) = false
 
 -- RX Discard is among the accesses.
 unfoldable pub discarded : List Access → Bool
 discarded [] = false
-discarded (x ∷ xs) = isDiscard x || discarded xs
+discarded (x ∷ xs) = is_discard x || discarded xs
 
 -- The answer is a refusal: once begun, 5 or 6.
 abbrev pub stopped : Answer → Bool
@@ -39,7 +39,7 @@ pub record GoesOn (left : ℕ) (R : Ran Serving) (more : ℕ) (Q : Ran Serving) 
 
 -- After a discard the run R goes on with a look, and has handed up nothing yet.
 pub record Paused (left : ℕ) (R : Ran Serving) (r : Served) (s : Adapter) (l₀ f₀ l f : List ℕ) : Type 0 where
-  pub on : GoesOn left R r.left (run (lookTalk r.left r.driver) s)
+  pub on : GoesOn left R r.left (run (look_talk r.left r.driver) s)
   pub less : r.left < left
   pub discard : discarded R.made ≡ true
   pub look : l ≡ l₀

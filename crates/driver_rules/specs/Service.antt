@@ -2,30 +2,30 @@
 use Rattle.std.specs.Prelude.{cond, ℕ, zero, suc}
 use Rattle.refusal.specs.declared.Refusal.TheVariants.{CardUnfit}
 use Rattle.driver_rules.specs.declared.Driver.{Driver}
-use Rattle.driver_rules.specs.Registers.{statusPort, rxStatus, rxDiscard, unfit, txComplete, rxComplete, bad, lengthIn}
-use Rattle.driver_rules.specs.Talk.{Talk, done, readWord, order}
+use Rattle.driver_rules.specs.Registers.{status_port, rx_status, rx_discard, unfit, tx_complete, rx_complete, bad, length_in}
+use Rattle.driver_rules.specs.Talk.{Talk, done, read_word, order}
 use Rattle.driver_rules.specs.declared.Answer.TheVariants.{Refused}
-use Rattle.driver_rules.specs.Items.{Serving, plain, short, reportTalk, idleTalk, fetchTalk}
+use Rattle.driver_rules.specs.Items.{Serving, plain, short, report_talk, idle_talk, fetch_talk}
 
 unfoldable mutual
   -- Service reads Status, then: TX Complete, else RX Complete, else idle. Budget 0 answers 6 in 5's place.
-  pub lookTalk : ℕ → Driver → Talk Serving
-  lookTalk zero d = done (short d)
-  lookTalk (suc left) d =
-      readWord statusPort (λ status.
+  pub look_talk : ℕ → Driver → Talk Serving
+  look_talk zero d = done (short d)
+  look_talk (suc left) d =
+      read_word status_port (λ status.
       cond (unfit status) (done (plain (Refused CardUnfit) d))
-      (cond (txComplete status) (reportTalk left d)
-      (cond (rxComplete status) (receiveTalk left d)
-      (idleTalk left d))))
+      (cond (tx_complete status) (report_talk left d)
+      (cond (rx_complete status) (receive_talk left d)
+      (idle_talk left d))))
 
   -- RX Complete: read RX Status.
-  pub receiveTalk : ℕ → Driver → Talk Serving
-  receiveTalk zero d = done (short d)
-  receiveTalk (suc left) d =
-      readWord rxStatus (λ rx.
-      cond (bad rx) (dropTalk left d) (fetchTalk left d (lengthIn rx)))
+  pub receive_talk : ℕ → Driver → Talk Serving
+  receive_talk zero d = done (short d)
+  receive_talk (suc left) d =
+      read_word rx_status (λ rx.
+      cond (bad rx) (drop_talk left d) (fetch_talk left d (length_in rx)))
 
   -- Discard, and the pass looks again from the start.
-  pub dropTalk : ℕ → Driver → Talk Serving
-  dropTalk zero d = done (short d)
-  dropTalk (suc left) d = order rxDiscard 0 (lookTalk left d)
+  pub drop_talk : ℕ → Driver → Talk Serving
+  drop_talk zero d = done (short d)
+  drop_talk (suc left) d = order rx_discard 0 (look_talk left d)

@@ -2,7 +2,7 @@
 use Rattle.std.specs.Prelude.{List, [], ◌∷◌, ◌++◌, map, ℕ, zero, suc, ◌+◌, ◌*◌, ◌/◌, ◌%◌, get_or, drop, replicate}
 use Rattle.card_rules.specs.Adapter.{Adapter}
 use Rattle.card_rules.specs.Access.{Access, ReadWord, ReadByte, WriteWord, WriteByte, access}
-use Rattle.driver_rules.specs.Registers.{dataPort, commandPort}
+use Rattle.driver_rules.specs.Registers.{data_port, command_port}
 
 -- A call is done with its answer, or asks for an access and goes on with the value read.
 pub data Talk (A : Type 0) : Type 0 where
@@ -26,31 +26,31 @@ run (ask x next) a = extended (x ∷ []) (run (next (access x a).value) (access 
 
 -- ---- accesses by name
 
-abbrev pub readWord : {A : Type 0} → ℕ → (ℕ → Talk A) → Talk A
-readWord o next = ask (ReadWord o) next
+abbrev pub read_word : {A : Type 0} → ℕ → (ℕ → Talk A) → Talk A
+read_word o next = ask (ReadWord o) next
 
-abbrev pub readByte : {A : Type 0} → ℕ → (ℕ → Talk A) → Talk A
-readByte o next = ask (ReadByte o) next
+abbrev pub read_byte : {A : Type 0} → ℕ → (ℕ → Talk A) → Talk A
+read_byte o next = ask (ReadByte o) next
 
-abbrev pub writeWord : {A : Type 0} → ℕ → ℕ → Talk A → Talk A
-writeWord o v next = ask (WriteWord o v) (λ _. next)
+abbrev pub write_word : {A : Type 0} → ℕ → ℕ → Talk A → Talk A
+write_word o v next = ask (WriteWord o v) (λ _. next)
 
-abbrev pub writeByte : {A : Type 0} → ℕ → ℕ → Talk A → Talk A
-writeByte o v next = ask (WriteByte o v) (λ _. next)
+abbrev pub write_byte : {A : Type 0} → ℕ → ℕ → Talk A → Talk A
+write_byte o v next = ask (WriteByte o v) (λ _. next)
 
 -- a command with its argument
 abbrev pub order : {A : Type 0} → ℕ → ℕ → Talk A → Talk A
-order c x next = writeWord commandPort (c + x) next
+order c x next = write_word command_port (c + x) next
 
 -- w words are read from the data port: their bytes, low byte first
-unfoldable pub readWords : {A : Type 0} → ℕ → (List ℕ → Talk A) → Talk A
-readWords zero next = next []
-readWords (suc w) next = readWord dataPort (λ v. readWords w (λ bytes. next (v % 256 ∷ (v / 256 ∷ bytes))))
+unfoldable pub read_words : {A : Type 0} → ℕ → (List ℕ → Talk A) → Talk A
+read_words zero next = next []
+read_words (suc w) next = read_word data_port (λ v. read_words w (λ bytes. next (v % 256 ∷ (v / 256 ∷ bytes))))
 
 -- words are written to the data port, in order
-unfoldable pub writeWords : {A : Type 0} → List ℕ → Talk A → Talk A
-writeWords [] next = next
-writeWords (v ∷ vs) next = writeWord dataPort v (writeWords vs next)
+unfoldable pub write_words : {A : Type 0} → List ℕ → Talk A → Talk A
+write_words [] next = next
+write_words (v ∷ vs) next = write_word data_port v (write_words vs next)
 
 -- the first m words of some bytes, low byte first; zeros past their end
 unfoldable pub words_of : ℕ → List ℕ → List ℕ
@@ -63,13 +63,13 @@ unfoldable pub after : List Access → Adapter → Adapter
 after [] a = a
 after (x ∷ xs) a = after xs (access x a).adapter
 
-abbrev pub afterReads : ℕ → Adapter → Adapter
-afterReads w a = after (replicate w (ReadWord dataPort)) a
+abbrev pub after_reads : ℕ → Adapter → Adapter
+after_reads w a = after (replicate w (ReadWord data_port)) a
 
-abbrev pub afterWrites : List ℕ → Adapter → Adapter
-afterWrites vs a = after (map (WriteWord dataPort) vs) a
+abbrev pub after_writes : List ℕ → Adapter → Adapter
+after_writes vs a = after (map (WriteWord data_port) vs) a
 
-unfoldable pub bytesRead : ℕ → Adapter → List ℕ
-bytesRead zero a = []
-bytesRead (suc w) a =
-    (access (ReadWord dataPort) a).value % 256 ∷ ((access (ReadWord dataPort) a).value / 256 ∷ bytesRead w (access (ReadWord dataPort) a).adapter)
+unfoldable pub bytes_read : ℕ → Adapter → List ℕ
+bytes_read zero a = []
+bytes_read (suc w) a =
+    (access (ReadWord data_port) a).value % 256 ∷ ((access (ReadWord data_port) a).value / 256 ∷ bytes_read w (access (ReadWord data_port) a).adapter)

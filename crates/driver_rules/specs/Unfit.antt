@@ -4,12 +4,12 @@ use Rattle.refusal.specs.declared.Refusal.TheVariants.{CardUnfit}
 use Rattle.card_rules.specs.Adapter.{Adapter}
 use Rattle.card_rules.specs.Access.{ReadWord}
 use Rattle.driver_rules.specs.declared.Driver.{Driver}
-use Rattle.driver_rules.specs.Registers.{statusPort}
+use Rattle.driver_rules.specs.Registers.{status_port}
 use Rattle.driver_rules.specs.Talk.{run}
 use Rattle.driver_rules.specs.declared.Answer.TheVariants.{Refused}
-use Rattle.driver_rules.specs.Service.{lookTalk}
+use Rattle.driver_rules.specs.Service.{look_talk}
 
 -- the Status read is the one access made
-abbrev pub Unfit-comes-at-once : Type 0
-Unfit-comes-at-once =
-    (budget : ℕ) (d : Driver) (a : Adapter) → (run (lookTalk budget d) a).answer.answer ≡ Refused CardUnfit → (run (lookTalk budget d) a).made ≡ ReadWord statusPort ∷ []
+abbrev pub UnfitComesAtOnce : Type 0
+UnfitComesAtOnce =
+    (budget : ℕ) (d : Driver) (a : Adapter) → (run (look_talk budget d) a).answer.answer ≡ Refused CardUnfit → (run (look_talk budget d) a).made ≡ ReadWord status_port ∷ []

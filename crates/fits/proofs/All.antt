@@ -3,15 +3,15 @@ use mathlib.Core.Path.{◌≡◌, refl, sym, ap, ◌∙◌}
 use mathlib.Core.List.{List}
 use Prim.Native.Nat.{ℕ, zero, suc}
 use lib.ListN.{length, take}
-use Rattle.image_rules.specs.Image.{checkOf}
+use Rattle.image_rules.specs.Image.{check_of}
 use Rattle.image_rules.specs.declared.Text.{Text}
 use Rattle.image_rules.specs.Line.{line_of, Says}
-use Rattle.transmit_rules.specs.Leave.{toldOf}
+use Rattle.transmit_rules.specs.Leave.{told_of}
 use Rattle.card_rules.specs.declared.Card.{Card}
 use Rattle.card_rules.specs.View.{view}
 use Rattle.card_rules.specs.Calls.{value, done, Area}
 use Rattle.card_rules.proofs.Counts.{one-count}
-use Rattle.fits.specs.Fits.{Exactly, OneLine, text, CardCalls, Nothing-else-fits}
+use Rattle.fits.specs.Fits.{Exactly, OneLine, text, CardCalls, NothingElseFits}
 use Rattle.fits.proofs.Card.{one_answer}
 use Rattle.fits.proofs.Driver.{driver-calls}
 
@@ -40,38 +40,38 @@ card-calls c ram dir =
       read_byte = λ o. one_answer (value _) refl c ram dir _ _ _ _ _ (λ r k. k);
       write_word = λ o v. one_answer done refl c ram dir _ _ _ _ _ (λ r k. k);
       write_byte = λ o v. one_answer done refl c ram dir _ _ _ _ _ (λ r k. k);
-      wire-start = λ first. one_answer done refl c ram dir _ _ _ _ _ (λ r k. k);
-      wire-byte = λ b. one_answer done refl c ram dir _ _ _ _ _ (λ r k. k);
-      wire-end = λ check alignment. one_answer done refl c ram dir _ _ _ _ _ (λ r k. k);
+      wire_start_call = λ first. one_answer done refl c ram dir _ _ _ _ _ (λ r k. k);
+      wire_byte_call = λ b. one_answer done refl c ram dir _ _ _ _ _ (λ r k. k);
+      wire_end_call = λ check alignment. one_answer done refl c ram dir _ _ _ _ _ (λ r k. k);
       success = one_answer (value _) refl c ram dir _ _ _ _ _ (λ r k. k);
-      success-area = same_area _ (toldOf (view c ram dir).tx.queue.packets);
+      success_area = same_area _ (told_of (view c ram dir).tx.queue.packets);
       collisions = one_answer done refl c ram dir _ _ _ _ _ (λ r k. k);
       seat = λ i. one_answer done refl c ram dir _ _ _ _ _ (λ r k. k);
-      interrupt-line = exactly _ _;
-      rx-status = exactly _ _;
+      interrupt_line_call = exactly _ _;
+      rx_status_call = exactly _ _;
     }
 
-pub nothing-else : Nothing-else-fits
-nothing-else =
+pub nothing_else : NothingElseFits
+nothing_else =
     record {
-      power-on = λ words ram dir l m r r' k k'. ((k ram dir l m).shows ∙ sym (k' ram dir l m).shows, one-count r r' ram dir ram dir _ (k ram dir l m) (k' ram dir l m));
+      power_on_call = λ words ram dir l m r r' k k'. ((k ram dir l m).shows ∙ sym (k' ram dir l m).shows, one-count r r' ram dir ram dir _ (k ram dir l m) (k' ram dir l m));
       card = card-calls;
       driver = driver-calls;
-      hand-up = λ look frame n r r' k k'. (k.0 ∙ sym k'.0, k.1 ∙ sym k'.1);
-      id-port = λ b x. record { port-write = λ byte. exactly _ _; port-read = exactly _ _; find-cards = exactly _ _; activate-card = λ tag base. exactly _ _ };
-      lent-port = λ cards x. record { write = λ byte. exactly _ _; read = exactly _ _; find = exactly _ _; activate = λ tag base. exactly _ _ };
+      hand_up_call = λ look frame n r r' k k'. (k.0 ∙ sym k'.0, k.1 ∙ sym k'.1);
+      id_port = λ b x. record { port_write_call = λ byte. exactly _ _; port_read_call = exactly _ _; find_cards = exactly _ _; activate_card = λ tag base. exactly _ _ };
+      lent_port = λ cards x. record { write = λ byte. exactly _ _; read = exactly _ _; find = exactly _ _; activate = λ tag base. exactly _ _ };
       fresh = λ words. exactly _ _;
-      id-sound = λ s. exactly _ _;
-      id-write = λ s x byte. exactly _ _;
-      id-bit = λ s x. exactly _ _;
-      id-after-read = λ s x bus. exactly _ _;
-      place-of = λ w. exactly _ _;
-      byte-at = λ bytes place. exactly _ _;
-      word-at = λ bytes w. exactly _ _;
+      id_sound_call = λ s. exactly _ _;
+      id_write_call = λ s x byte. exactly _ _;
+      id_bit_call = λ s x. exactly _ _;
+      id_after_read_call = λ s x bus. exactly _ _;
+      place_of_call = λ w. exactly _ _;
+      byte_at_call = λ bytes place. exactly _ _;
+      word_at_call = λ bytes w. exactly _ _;
       checksum = λ bytes. exactly _ _;
       secondary = λ bytes. exactly _ _;
       check = λ bytes. exactly _ _;
       line = λ found. one_line (line_of found);
-      line-judged = λ bytes. one_line (line_of (checkOf bytes));
+      line_judged = λ bytes. one_line (line_of (check_of bytes));
       number = λ why. exactly _ _;
     }

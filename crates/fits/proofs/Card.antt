@@ -9,7 +9,7 @@ use Rattle.card_rules.specs.declared.Card.{Card}
 use Rattle.card_rules.specs.Adapter.{Adapter}
 use Rattle.card_rules.proofs.Counts.{one-count}
 use Rattle.card_rules.specs.Calls.{Reply, refused, value, done, replying, Does, Call}
-use Rattle.fits.specs.Agree.{End, shown, SameEnd, isRefusal}
+use Rattle.fits.specs.Agree.{End, shown, SameEnd, is_refusal}
 use Rattle.fits.specs.Fits.{OneAnswer}
 
 numbered : Reply → ℕ
@@ -25,11 +25,11 @@ whole-end e e' same = record { shows = ap shown same; counts = (ap (λ (x : End)
 abbrev Leaves : ℕ → Reply → Reply → Card → List ℕ → List ℕ → Adapter → End → Type 0
 Leaves n x w c ram dir a e = Call n x w c e.card ram dir e.ram e.dir a
 
-module _ (w : Reply) (plain : isRefusal w ≡ false) (c : Card) (ram dir : List ℕ) (a : Adapter) where
-  same_end : (n : ℕ) (x x' : Reply) (e e' : End) → Leaves n x w c ram dir a e → Leaves n x' w c ram dir a e' → SameEnd (isRefusal x) e e'
+module _ (w : Reply) (plain : is_refusal w ≡ false) (c : Card) (ram dir : List ℕ) (a : Adapter) where
+  same_end : (n : ℕ) (x x' : Reply) (e e' : End) → Leaves n x w c ram dir a e → Leaves n x' w c ram dir a e' → SameEnd (is_refusal x) e e'
   unfolding replying Does
   same_end zero x x' e e' k k' =
-      record { shows = k.does.shows ∙ sym k'.does.shows; counts = one-count e.card e'.card e.ram e.dir e'.ram e'.dir a k.does k'.does; whole = λ y. never (sym plain ∙ (sym (ap isRefusal k.answer) ∙ y)) }
+      record { shows = k.does.shows ∙ sym k'.does.shows; counts = one-count e.card e'.card e.ram e.dir e'.ram e'.dir a k.does k'.does; whole = λ y. never (sym plain ∙ (sym (ap is_refusal k.answer) ∙ y)) }
   same_end (suc n) x x' e e' k k' =
       let same : e ≡ e' =
       λ i. record {
@@ -39,13 +39,13 @@ module _ (w : Reply) (plain : isRefusal w ≡ false) (c : Card) (ram dir : List 
       } in
       whole-end e e' same
 
-  refused-when : (number : ℕ) (x : Reply) (e : End) → Leaves number x w c ram dir a e → (n : ℕ) → number ≡ suc n → x ≡ refused (suc n)
+  refused_when : (number : ℕ) (x : Reply) (e : End) → Leaves number x w c ram dir a e → (n : ℕ) → number ≡ suc n → x ≡ refused (suc n)
   unfolding replying
-  refused-when number x e k n h = k.answer ∙ ap (λ (m : ℕ). replying m w) h
+  refused_when number x e k n h = k.answer ∙ ap (λ (m : ℕ). replying m w) h
 
   refused-only : (number : ℕ) (x : Reply) (e : End) → Leaves number x w c ram dir a e → (n : ℕ) → x ≡ refused n → (number ≡ n) × (n ≡ 0 → ⊥)
   unfolding replying numbered
-  refused-only zero x e k n h = never (sym plain ∙ (sym (ap isRefusal k.answer) ∙ ap isRefusal h))
+  refused-only zero x e k n h = never (sym plain ∙ (sym (ap is_refusal k.answer) ∙ ap is_refusal h))
   refused-only (suc m) x e k n h =
       let same : suc m ≡ n = ap numbered (sym k.answer ∙ h) in
       (same, (λ z. omega arith))
@@ -56,6 +56,6 @@ module _ (w : Reply) (plain : isRefusal w ≡ false) (c : Card) (ram dir : List 
       record {
         answer = λ r r' k k'. (call r k).answer ∙ sym (call r' k').answer;
         ends = λ r r' k k'. same_end number (reply r) (reply r') (end r) (end r') (call r k) (call r' k');
-        refused-when = λ r k. refused-when number (reply r) (end r) (call r k);
-        refused-only-when = λ r k. refused-only number (reply r) (end r) (call r k);
+        refused_when = λ r k. refused_when number (reply r) (end r) (call r k);
+        refused_only_when = λ r k. refused-only number (reply r) (end r) (call r k);
       }

@@ -4,7 +4,7 @@ use mathlib.Core.Bool.{Bool, true, false, ◌&&◌}
 use mathlib.Core.List.{List}
 use Prim.Native.Nat.{ℕ}
 use Rattle.refusal.specs.declared.Refusal.TheVariants.{CardUnfit}
-use Rattle.bits.proofs.Tests.{by-test, never}
+use Rattle.bits.proofs.Tests.{by_test, never}
 use Rattle.card_rules.specs.declared.Card.{Card}
 use Rattle.card_rules.specs.Adapter.{Adapter}
 use Rattle.card_rules.specs.View.{view, Stands}
@@ -23,13 +23,13 @@ use Rattle.driver_rules.specs.declared.SendAnswer.{SendAnswer}
 use Rattle.driver_rules.specs.declared.SendAnswer.TheVariants as sending
 use Rattle.driver_rules.specs.Send as sends
 use Rattle.driver_rules.specs.declared.Sent.{Sent}
-use Rattle.driver_rules.specs.Paper.{openPaper, sendPaper, servicePaper}
-use Rattle.driver_rules.specs.Calls.{soundState, large, serviceCall, Opens, Sends, Services}
-use Rattle.driver_rules.proofs.Ways.{begun-look, five-keeps}
+use Rattle.driver_rules.specs.Paper.{open_paper, send_paper, service_paper}
+use Rattle.driver_rules.specs.Calls.{sound_state, large, service_call, Opens, Sends, Services}
+use Rattle.driver_rules.proofs.Ways.{begun-look, five_keeps}
 use Rattle.fits.specs.Agree.{With, WithAreas, End, SameCounts, SameEnd, is_refused, SameLeft}
 use Rattle.fits.specs.Fits.{opened, sent, served, DriverCalls}
 use Rattle.fits.proofs.Card.{whole-end}
-use Rattle.fits.proofs.Service.{Ways, of-look}
+use Rattle.fits.proofs.Service.{Ways, of_look}
 
 -- ---- taken or kept, by one test
 
@@ -50,21 +50,21 @@ module _ (c : Card) (ram dir : List ℕ) (a : Adapter) (e e' : End) where
   same_ends true t k t' k' = whole-end e e' (kept_same (k refl) (k' refl))
   same_ends false t k t' k' = record { shows = (t refl).shows ∙ sym (t' refl).shows; counts = same-counts (t refl) (t' refl); whole = λ y. never y }
 
-open-refused : (x : OpenAnswer) → is_refused (openPaper x) ≡ opens.refusing x
-open-refused opening.Done = refl
-open-refused (opening.Refused why) = refl
+open_refused : (x : OpenAnswer) → is_refused (open_paper x) ≡ opens.refusing x
+open_refused opening.Done = refl
+open_refused (opening.Refused why) = refl
 
-send-refused : (x : SendAnswer) → is_refused (sendPaper x) ≡ sends.refusing x
+send-refused : (x : SendAnswer) → is_refused (send_paper x) ≡ sends.refusing x
 send-refused (sending.Ticket n) = refl
 send-refused (sending.Refused why) = refl
 
 -- ---- a service that is begun is refused 5 or goes short of budget; it has no other refusal
 
 abbrev Fivefold : Serving → Type 0
-Fivefold x = (used : ℕ) → is_refused (servicePaper x.answer used) ≡ true → x.answer ≡ serving.Refused CardUnfit
+Fivefold x = (used : ℕ) → is_refused (service_paper x.answer used) ≡ true → x.answer ≡ serving.Refused CardUnfit
 
-five-only : Ways Fivefold
-five-only =
+five_only : Ways Fivefold
+five_only =
     record {
       budget-short = λ d used y. never y;
       card-unfit = λ d used y. refl;
@@ -80,10 +80,10 @@ module _ (c : Card) (ram dir : List ℕ) (d : Driver) where
   same-opened : (w₀ w₁ w₂ : ℕ) (r r' : With Opened) → Opens c ram dir d w₀ w₁ w₂ r.result r.ram r.dir → Opens c ram dir d w₀ w₁ w₂ r'.result r'.ram r'.dir → SameLeft (opened r) (opened r')
   same-opened w₀ w₁ w₂ r r' k k' =
       let x : r.result.answer ≡ r'.result.answer = k.answer ∙ sym k'.answer in
-      let b : is_refused (openPaper r.result.answer) ≡ opens.refusing r.result.answer = open-refused r.result.answer in
-      let b' : is_refused (openPaper r.result.answer) ≡ opens.refusing r'.result.answer = b ∙ ap opens.refusing x in
+      let b : is_refused (open_paper r.result.answer) ≡ opens.refusing r.result.answer = open_refused r.result.answer in
+      let b' : is_refused (open_paper r.result.answer) ≡ opens.refusing r'.result.answer = b ∙ ap opens.refusing x in
       record {
-        answer = ap openPaper x;
+        answer = ap open_paper x;
         driver = k.driver ∙ sym k'.driver;
         ends = same_ends c ram dir _ (opened r).end (opened r').end _ (λ y. k.taken (sym b ∙ y)) (λ y. k.kept (sym b ∙ y)) (λ y. k'.taken (sym b' ∙ y)) (λ y. k'.kept (sym b' ∙ y));
       }
@@ -91,10 +91,10 @@ module _ (c : Card) (ram dir : List ℕ) (d : Driver) where
   same_sent : (packet : List ℕ) (r r' : With Sent) → Sends c ram dir d packet r.result r.ram r.dir → Sends c ram dir d packet r'.result r'.ram r'.dir → SameLeft (sent r) (sent r')
   same_sent packet r r' k k' =
       let x : r.result.answer ≡ r'.result.answer = k.answer ∙ sym k'.answer in
-      let b : is_refused (sendPaper r.result.answer) ≡ sends.refusing r.result.answer = send-refused r.result.answer in
-      let b' : is_refused (sendPaper r.result.answer) ≡ sends.refusing r'.result.answer = b ∙ ap sends.refusing x in
+      let b : is_refused (send_paper r.result.answer) ≡ sends.refusing r.result.answer = send-refused r.result.answer in
+      let b' : is_refused (send_paper r.result.answer) ≡ sends.refusing r'.result.answer = b ∙ ap sends.refusing x in
       record {
-        answer = ap sendPaper x;
+        answer = ap send_paper x;
         driver = k.driver ∙ sym k'.driver;
         ends = same_ends c ram dir _ (sent r).end (sent r').end _ (λ y. k.taken (sym b ∙ y)) (λ y. k.kept (sym b ∙ y)) (λ y. k'.taken (sym b' ∙ y)) (λ y. k'.kept (sym b' ∙ y));
       }
@@ -104,33 +104,33 @@ module _ (c : Card) (ram dir : List ℕ) (d : Driver) where
     Serves r = Services c ram dir d budget look frame r.result r.ram r.dir r.look r.frame
 
     abbrev begun : Bool
-    begun = soundState c ram dir d && (d.opened && large look frame)
+    begun = sound_state c ram dir d && (d.opened && large look frame)
 
     abbrev R : Ran Serving
-    R = run (serviceCall (soundState c ram dir d) (large look frame) d budget) (view c ram dir)
+    R = run (service_call (sound_state c ram dir d) (large look frame) d budget) (view c ram dir)
 
     unfit-only : begun ≡ true → Fivefold R.answer
     unfit-only y =
         subst⁻¹ (λ (t : Talk Serving). Fivefold (run t (view c ram dir)).answer)
-        (begun-look (soundState c ram dir d) (large look frame) d budget y) (of-look Fivefold five-only budget d (view c ram dir))
+        (begun-look (sound_state c ram dir d) (large look frame) d budget y) (of_look Fivefold five_only budget d (view c ram dir))
 
     keeps : (r : WithAreas Serviced) → Serves r → begun ≡ true → R.answer.answer ≡ serving.Refused CardUnfit → Keeps c ram dir (served r).end
-    keeps r = five-keeps c ram dir d budget look frame r.result r.ram r.dir r.look r.frame
+    keeps r = five_keeps c ram dir d budget look frame r.result r.ram r.dir r.look r.frame
 
     same-served : (r r' : WithAreas Serviced) → Serves r → Serves r' → SameLeft (served r) (served r')
     same-served r r' k k' =
         let x : r.result.answer ≡ r'.result.answer = k.answer ∙ sym k'.answer in
         let u : r.result.used ≡ r'.result.used = k.used ∙ sym k'.used in
         record {
-          answer = λ i. servicePaper (x i) (u i);
+          answer = λ i. service_paper (x i) (u i);
           driver = k.driver ∙ sym k'.driver;
           ends =
-              by-test begun
+              by_test begun
               (λ y. record {
                 shows = (k.taken y).shows ∙ sym (k'.taken y).shows;
                 counts = same-counts c ram dir _ (served r).end (served r').end (k.taken y) (k'.taken y);
                 whole = λ n.
-                    let five : R.answer.answer ≡ serving.Refused CardUnfit = unfit-only y r.result.used (ap (λ (z : Answer). is_refused (servicePaper z r.result.used)) (sym k.answer) ∙ n) in
+                    let five : R.answer.answer ≡ serving.Refused CardUnfit = unfit-only y r.result.used (ap (λ (z : Answer). is_refused (service_paper z r.result.used)) (sym k.answer) ∙ n) in
                     kept_same c ram dir (view c ram dir) (served r).end (served r').end (keeps r k y five) (keeps r' k' y five);
               })
               (λ n.
@@ -144,6 +144,6 @@ module _ (c : Card) (ram dir : List ℕ) (d : Driver) where
         «open» = same-opened;
         send = same_sent;
         service = same-served;
-        service-used = λ budget look frame r r' k k'. k.used ∙ sym k'.used;
-        service-areas = λ budget look frame r r' k k'. (k.lookahead ∙ sym k'.lookahead, k.frames ∙ sym k'.frames);
+        service_used = λ budget look frame r r' k k'. k.used ∙ sym k'.used;
+        service_areas = λ budget look frame r r' k k'. (k.lookahead ∙ sym k'.lookahead, k.frames ∙ sym k'.frames);
       }

@@ -5,7 +5,7 @@ use mathlib.Core.Bool.{Bool, true, false, cond, not}
 use Prim.Native.Nat.{ℕ}
 use borrow.Author.Tests.{eqb-false}
 use lib.Dec.{eqb}
-use Rattle.bits.proofs.Tests.{of-cond, never}
+use Rattle.bits.proofs.Tests.{of_cond, never}
 use Rattle.driver_rules.specs.Paper as paper
 use Rattle.driver_rules.specs.Paper.{Paper, refused}
 
@@ -14,7 +14,7 @@ abbrev pub number : Paper → ℕ
 number paper.opened = 0
 number (paper.ticket n) = 0
 number (paper.report t s used) = 0
-number (paper.statusAlone s used) = 0
+number (paper.status_alone s used) = 0
 number (paper.frame n used) = 0
 number (paper.idle used) = 0
 number (paper.short used) = 6
@@ -26,7 +26,7 @@ apart p q h e = eqb-false (number p) (number q) h (ap number e)
 module _ (b : Bool) (m : ℕ) (q : Paper) (other : eqb m (number q) ≡ false) where
   -- q is said neither by this test nor behind it
   pub nowhere : {rest : Paper} → (rest ≡ q → ⊥) → cond b (refused m) rest ≡ q → ⊥
-  nowhere k = of-cond (λ (p : Paper). p ≡ q → ⊥) b (apart (refused m) q other) k
+  nowhere k = of_cond (λ (p : Paper). p ≡ q → ⊥) b (apart (refused m) q other) k
 
 -- m is said by this test
 pub here : (b : Bool) (m : ℕ) {rest : Paper} → (rest ≡ refused m → ⊥) → cond b (refused m) rest ≡ refused m ↔ b ≡ true

@@ -10,54 +10,54 @@ use lib.ListN.{length}
 use Rattle.refusal.specs.declared.Refusal.{Refusal}
 use Rattle.refusal.specs.declared.Refusal.TheVariants.{StateUnsound, NeverOpened, AreaShort, CardUnfit}
 use Rattle.refusal.specs.Number.{number_of}
-use Rattle.bits.proofs.Tests.{of-cond, by-test, never}
+use Rattle.bits.proofs.Tests.{of_cond, by_test, never}
 use Rattle.card_rules.specs.Adapter.{Adapter}
 use Rattle.card_rules.specs.View.{view}
 use Rattle.card_rules.specs.Access.{Access}
 use Rattle.driver_rules.specs.declared.Driver.{Driver}
-use Rattle.driver_rules.specs.Registers.{unfit, txComplete, rxComplete}
-use Rattle.driver_rules.specs.Packet.{outside, lacksRoom, packetWords}
+use Rattle.driver_rules.specs.Registers.{unfit, tx_complete, rx_complete}
+use Rattle.driver_rules.specs.Packet.{outside, lacks_room, packet_words}
 use Rattle.driver_rules.specs.Talk.{Talk, done, ask, Ran, run}
-use Rattle.driver_rules.proofs.Runs.{writes-law}
-use Rattle.driver_rules.proofs.Unfit.{unfit-at-once}
+use Rattle.driver_rules.proofs.Runs.{writes_law}
+use Rattle.driver_rules.proofs.Unfit.{unfit_at_once}
 use Rattle.driver_rules.specs.declared.Answer.{Answer}
 use Rattle.driver_rules.specs.declared.Answer.TheVariants as serving
-use Rattle.driver_rules.specs.Open.{openTalk}
-use Rattle.driver_rules.specs.Send.{Sending, refuses, ticketed, sendTalk}
-use Rattle.driver_rules.specs.Items.{Serving, plain, short, reportTalk, idleTalk}
-use Rattle.driver_rules.specs.Service.{lookTalk, receiveTalk}
+use Rattle.driver_rules.specs.Open.{open_talk}
+use Rattle.driver_rules.specs.Send.{Sending, refuses, ticketed, send_talk}
+use Rattle.driver_rules.specs.Items.{Serving, plain, short, report_talk, idle_talk}
+use Rattle.driver_rules.specs.Service.{look_talk, receive_talk}
 use Rattle.driver_rules.specs.Paper as paper
-use Rattle.driver_rules.specs.Paper.{Paper, refused, ticket, openPaper, sendPaper, servicePaper}
-use Rattle.driver_rules.specs.Calls.{soundState, large, openCall, sendCall, serviceCall}
+use Rattle.driver_rules.specs.Paper.{Paper, refused, ticket, open_paper, send_paper, service_paper}
+use Rattle.driver_rules.specs.Calls.{sound_state, large, open_call, send_call, service_call}
 use Rattle.fits.specs.Agree.{is_refused}
-use Rattle.fits.specs.Order.{statusRead, freeRead}
-use Rattle.fits.specs.When.{looked, Short, Begun, Open-when, Send-when, Service-when, Refused-exactly-when}
+use Rattle.fits.specs.Order.{status_read, free_read}
+use Rattle.fits.specs.When.{looked, Short, Begun, Open-when, Send-when, Service-when, RefusedExactlyWhen}
 use Rattle.fits.proofs.Rows.{number, apart, nowhere, here, here-not, behind, behind-not, last, last-not, said}
-use Rattle.fits.proofs.Needs.{six, short-when, spared, one-need}
+use Rattle.fits.proofs.Needs.{six, short_when, spared, one_need}
 use Rattle.fits.proofs.Endless.{endless}
-use Rattle.fits.proofs.Service.{Ways, of-look}
+use Rattle.fits.proofs.Service.{Ways, of_look}
 
 -- ---- open
 
-open-says : (sound : Bool) (d : Driver) (w₀ w₁ w₂ : ℕ) (a : Adapter) → openPaper (run (openCall sound d w₀ w₁ w₂) a).answer.answer ≡ cond (not sound) (refused 1) paper.opened
-unfolding openCall openTalk run
-open-says true d w₀ w₁ w₂ a = refl
-open-says false d w₀ w₁ w₂ a = refl
+open_says : (sound : Bool) (d : Driver) (w₀ w₁ w₂ : ℕ) (a : Adapter) → open_paper (run (open_call sound d w₀ w₁ w₂) a).answer.answer ≡ cond (not sound) (refused 1) paper.opened
+unfolding open_call open_talk run
+open_says true d w₀ w₁ w₂ a = refl
+open_says false d w₀ w₁ w₂ a = refl
 
-open-when : (sound : Bool) (d : Driver) (says : Paper) → says ≡ cond (not sound) (refused 1) paper.opened → Open-when sound d says
-open-when sound d says e = record { refusal-1 = said e (here-not sound 1 (apart paper.opened (refused 1) refl)); no_other = said e (last-not sound 1 paper.opened refl) }
+open_when : (sound : Bool) (d : Driver) (says : Paper) → says ≡ cond (not sound) (refused 1) paper.opened → Open-when sound d says
+open_when sound d says e = record { refusal_1 = said e (here-not sound 1 (apart paper.opened (refused 1) refl)); no_other = said e (last-not sound 1 paper.opened refl) }
 
 -- ---- send
 
 -- refused where a test holds, and on where it does not
-sends-by : (b : Bool) (why : Refusal) (d : Driver) (rest : Talk Sending) (a : Adapter) (p : Paper) → sendPaper (run rest a).answer.answer ≡ p
-    → sendPaper (run (cond b (done (refuses d why)) rest) a).answer.answer ≡ cond b (refused (number_of why)) p
+sends_by : (b : Bool) (why : Refusal) (d : Driver) (rest : Talk Sending) (a : Adapter) (p : Paper) → send_paper (run rest a).answer.answer ≡ p
+    → send_paper (run (cond b (done (refuses d why)) rest) a).answer.answer ≡ cond b (refused (number_of why)) p
 unfolding run
-sends-by true why d rest a p e = refl
-sends-by false why d rest a p e = e
+sends_by true why d rest a p e = refl
+sends_by false why d rest a p e = e
 
-sends-sound : (sound : Bool) (why : Refusal) (d : Driver) (rest : Talk Sending) (a : Adapter) (p : Paper) → sendPaper (run rest a).answer.answer ≡ p
-    → sendPaper (run (cond sound rest (done (refuses d why))) a).answer.answer ≡ cond (not sound) (refused (number_of why)) p
+sends-sound : (sound : Bool) (why : Refusal) (d : Driver) (rest : Talk Sending) (a : Adapter) (p : Paper) → send_paper (run rest a).answer.answer ≡ p
+    → send_paper (run (cond sound rest (done (refuses d why))) a).answer.answer ≡ cond (not sound) (refused (number_of why)) p
 unfolding run
 sends-sound true why d rest a p e = e
 sends-sound false why d rest a p e = refl
@@ -70,42 +70,42 @@ module _ (sound : Bool) (d : Driver) (packet : List ℕ) (a : Adapter) where
   many = ltb 15 d.unreported
 
   abbrev bad-status : Bool
-  bad-status = unfit (statusRead a)
+  bad-status = unfit (status_read a)
 
   abbrev no_room : Bool
-  no_room = lacksRoom (freeRead a) (length packet)
+  no_room = lacks_room (free_read a) (length packet)
 
   abbrev sent : Paper
   sent = ticket d.sent
 
-  abbrev send-chain : Paper
-  send-chain = cond (not sound) (refused 1) (cond (not d.opened) (refused 13) (cond long (refused 2) (cond many (refused 3) (cond bad-status (refused 5) (cond no_room (refused 4) sent)))))
+  abbrev send_chain : Paper
+  send_chain = cond (not sound) (refused 1) (cond (not d.opened) (refused 13) (cond long (refused 2) (cond many (refused 3) (cond bad-status (refused 5) (cond no_room (refused 4) sent)))))
 
-  send-says : sendPaper (run (sendCall sound d packet) a).answer.answer ≡ send-chain
-  unfolding sendCall sendTalk run
+  send-says : send_paper (run (send_call sound d packet) a).answer.answer ≡ send_chain
+  unfolding send_call send_talk run
   send-says =
       sends-sound sound _ d _ a _
-      (sends-by (not d.opened) _ d _ a _
-      (sends-by long _ d _ a _
-      (sends-by many _ d _ a _
-      (sends-by bad-status _ d _ _ _
-      (sends-by no_room _ d _ _ _
-      (ap (λ (R : Ran Sending). sendPaper R.answer.answer) (writes-law (packetWords packet) (done (ticketed d)) _)))))))
+      (sends_by (not d.opened) _ d _ a _
+      (sends_by long _ d _ a _
+      (sends_by many _ d _ a _
+      (sends_by bad-status _ d _ _ _
+      (sends_by no_room _ d _ _ _
+      (ap (λ (R : Ran Sending). send_paper R.answer.answer) (writes_law (packet_words packet) (done (ticketed d)) _)))))))
 
-  send-when : (says : Paper) → says ≡ send-chain → Send-when sound d packet a says
-  send-when says e =
+  send_when : (says : Paper) → says ≡ send_chain → Send-when sound d packet a says
+  send_when says e =
       record {
-        refusal-1 = said e (here-not sound 1
+        refusal_1 = said e (here-not sound 1
             (nowhere (not d.opened) 13 (refused 1) refl (nowhere long 2 (refused 1) refl (nowhere many 3 (refused 1) refl (nowhere bad-status 5 (refused 1) refl (nowhere no_room 4 (refused 1) refl (apart sent (refused 1) refl)))))));
-        refusal-13 = said e (behind-not sound 1 (refused 13) refl (here-not d.opened 13
+        refusal_13 = said e (behind-not sound 1 (refused 13) refl (here-not d.opened 13
             (nowhere long 2 (refused 13) refl (nowhere many 3 (refused 13) refl (nowhere bad-status 5 (refused 13) refl (nowhere no_room 4 (refused 13) refl (apart sent (refused 13) refl)))))));
-        refusal-2 = said e (behind-not sound 1 (refused 2) refl (behind-not d.opened 13 (refused 2) refl (here long 2
+        refusal_2 = said e (behind-not sound 1 (refused 2) refl (behind-not d.opened 13 (refused 2) refl (here long 2
             (nowhere many 3 (refused 2) refl (nowhere bad-status 5 (refused 2) refl (nowhere no_room 4 (refused 2) refl (apart sent (refused 2) refl)))))));
-        refusal-3 = said e (behind-not sound 1 (refused 3) refl (behind-not d.opened 13 (refused 3) refl (behind long 2 (refused 3) refl (here many 3
+        refusal_3 = said e (behind-not sound 1 (refused 3) refl (behind-not d.opened 13 (refused 3) refl (behind long 2 (refused 3) refl (here many 3
             (nowhere bad-status 5 (refused 3) refl (nowhere no_room 4 (refused 3) refl (apart sent (refused 3) refl)))))));
-        refusal-5 = said e (behind-not sound 1 (refused 5) refl (behind-not d.opened 13 (refused 5) refl (behind long 2 (refused 5) refl (behind many 3 (refused 5) refl (here bad-status 5
+        refusal_5 = said e (behind-not sound 1 (refused 5) refl (behind-not d.opened 13 (refused 5) refl (behind long 2 (refused 5) refl (behind many 3 (refused 5) refl (here bad-status 5
             (nowhere no_room 4 (refused 5) refl (apart sent (refused 5) refl)))))));
-        refusal-4 = said e (behind-not sound 1 (refused 4) refl (behind-not d.opened 13 (refused 4) refl (behind long 2 (refused 4) refl (behind many 3 (refused 4) refl (behind bad-status 5 (refused 4) refl
+        refusal_4 = said e (behind-not sound 1 (refused 4) refl (behind-not d.opened 13 (refused 4) refl (behind long 2 (refused 4) refl (behind many 3 (refused 4) refl (behind bad-status 5 (refused 4) refl
             (here no_room 4 (apart sent (refused 4) refl)))))));
         no_other = said e (behind-not sound 1 sent refl (behind-not d.opened 13 sent refl (behind long 2 sent refl (behind many 3 sent refl (behind bad-status 5 sent refl (last no_room 4 sent refl))))));
       }
@@ -113,23 +113,23 @@ module _ (sound : Bool) (d : Driver) (packet : List ℕ) (a : Adapter) where
 -- ---- a service that is begun: 5, or 6, or no refusal
 
 -- the paper says short where the answer is 6
-short-by : (b : Bool) (m used : ℕ) → eqb m 6 ≡ b → cond b (paper.short used) (refused m) ≡ paper.short used ↔ b ≡ true
-short-by true m used h = (λ _. refl, λ _. refl)
-short-by false m used h = (λ e. absurd (apart (refused m) (paper.short used) h e), λ e. never e)
+short_by : (b : Bool) (m used : ℕ) → eqb m 6 ≡ b → cond b (paper.short used) (refused m) ≡ paper.short used ↔ b ≡ true
+short_by true m used h = (λ _. refl, λ _. refl)
+short_by false m used h = (λ e. absurd (apart (refused m) (paper.short used) h e), λ e. never e)
 
-says-short : (x : Answer) (used : ℕ) → servicePaper x used ≡ paper.short used ↔ six x ≡ true
+says-short : (x : Answer) (used : ℕ) → service_paper x used ≡ paper.short used ↔ six x ≡ true
 says-short (serving.Reported t s) used = (λ e. absurd (apart (paper.report t s used) (paper.short used) refl e), λ e. never e)
-says-short (serving.Status s) used = (λ e. absurd (apart (paper.statusAlone s used) (paper.short used) refl e), λ e. never e)
+says-short (serving.Status s) used = (λ e. absurd (apart (paper.status_alone s used) (paper.short used) refl e), λ e. never e)
 says-short (serving.Frame n) used = (λ e. absurd (apart (paper.frame n used) (paper.short used) refl e), λ e. never e)
 says-short serving.Idle used = (λ e. absurd (apart (paper.idle used) (paper.short used) refl e), λ e. never e)
-says-short (serving.Refused why) used = short-by (eqb (number_of why) 6) (number_of why) used refl
+says-short (serving.Refused why) used = short_by (eqb (number_of why) 6) (number_of why) used refl
 
 -- its one refusal besides is 5
 abbrev Five : Serving → Type 0
-Five x = (used n : ℕ) → servicePaper x.answer used ≡ refused n → (n ≡ 5) × (x.answer ≡ serving.Refused CardUnfit)
+Five x = (used n : ℕ) → service_paper x.answer used ≡ refused n → (n ≡ 5) × (x.answer ≡ serving.Refused CardUnfit)
 
-five-alone : Ways Five
-five-alone =
+five_alone : Ways Five
+five_alone =
     record {
       budget-short = λ d used n e. never (ap is_refused e);
       card-unfit = λ d used n e. (sym (ap number e), refl);
@@ -151,40 +151,40 @@ quiet_short : (d : Driver) → Quiet (done (short d))
 unfolding run
 quiet_short d a n e = never (sym (ap six e))
 
-quiet-report : (left : ℕ) (d : Driver) → Quiet (reportTalk left d)
-unfolding reportTalk
-quiet-report left d = of-cond Quiet (ltb left 4) (quiet_short d) (quiet-ask _ _)
+quiet-report : (left : ℕ) (d : Driver) → Quiet (report_talk left d)
+unfolding report_talk
+quiet-report left d = of_cond Quiet (ltb left 4) (quiet_short d) (quiet-ask _ _)
 
-quiet-receive : (left : ℕ) (d : Driver) → Quiet (receiveTalk left d)
-unfolding receiveTalk
-quiet-receive zero d = quiet_short d
-quiet-receive (suc left) d = quiet-ask _ _
+quiet_receive : (left : ℕ) (d : Driver) → Quiet (receive_talk left d)
+unfolding receive_talk
+quiet_receive zero d = quiet_short d
+quiet_receive (suc left) d = quiet-ask _ _
 
-quiet-idle : (left : ℕ) (d : Driver) → Quiet (idleTalk left d)
-unfolding idleTalk
+quiet-idle : (left : ℕ) (d : Driver) → Quiet (idle_talk left d)
+unfolding idle_talk
 quiet-idle zero d = quiet_short d
 quiet-idle (suc left) d = quiet-ask _ _
 
 -- 5 comes at the first read, so that read shows an unfit Status
-unfit-shown : (budget : ℕ) (d : Driver) (a : Adapter) → (run (lookTalk budget d) a).answer.answer ≡ serving.Refused CardUnfit → (0 < budget) × (unfit (statusRead a) ≡ true)
-unfolding lookTalk run
+unfit-shown : (budget : ℕ) (d : Driver) (a : Adapter) → (run (look_talk budget d) a).answer.answer ≡ serving.Refused CardUnfit → (0 < budget) × (unfit (status_read a) ≡ true)
+unfolding look_talk run
 unfit-shown zero d a e = never (sym (ap six e))
 unfit-shown (suc left) d a e =
-    let once : length (run (lookTalk (suc left) d) a).made ≡ 1 = ap length (unfit-at-once (suc left) d a e) in
-    let s : ℕ = statusRead a in
-    let rest : Quiet (cond (txComplete s) (reportTalk left d) (cond (rxComplete s) (receiveTalk left d) (idleTalk left d))) =
-    of-cond Quiet (txComplete s) (quiet-report left d) (of-cond Quiet (rxComplete s) (quiet-receive left d) (quiet-idle left d)) in
-    by-test (unfit s) (λ u. (omega arith, u)) (λ u. absurd (rest (looked a) (omega (arith, rw u at once)) (rw u at e)))
+    let once : length (run (look_talk (suc left) d) a).made ≡ 1 = ap length (unfit_at_once (suc left) d a e) in
+    let s : ℕ = status_read a in
+    let rest : Quiet (cond (tx_complete s) (report_talk left d) (cond (rx_complete s) (receive_talk left d) (idle_talk left d))) =
+    of_cond Quiet (tx_complete s) (quiet-report left d) (of_cond Quiet (rx_complete s) (quiet_receive left d) (quiet-idle left d)) in
+    by_test (unfit s) (λ u. (omega arith, u)) (λ u. absurd (rest (looked a) (omega (arith, rw u at once)) (rw u at e)))
 
-unfit-said : (budget : ℕ) (d : Driver) (a : Adapter) → 0 < budget → unfit (statusRead a) ≡ true → (run (lookTalk budget d) a).answer.answer ≡ serving.Refused CardUnfit
-unfolding lookTalk run
+unfit-said : (budget : ℕ) (d : Driver) (a : Adapter) → 0 < budget → unfit (status_read a) ≡ true → (run (look_talk budget d) a).answer.answer ≡ serving.Refused CardUnfit
+unfolding look_talk run
 unfit-said zero d a b u = absurd (omega arith)
 unfit-said (suc left) d a b u = rw u
 
 -- ---- service
 
-serves_by : (b : Bool) (why : Refusal) (d : Driver) (rest : Talk Serving) (a : Adapter) (used : ℕ) (p : Paper) → servicePaper (run rest a).answer.answer used ≡ p
-    → servicePaper (run (cond b (done (plain (serving.Refused why) d)) rest) a).answer.answer used ≡ cond b (servicePaper (serving.Refused why) used) p
+serves_by : (b : Bool) (why : Refusal) (d : Driver) (rest : Talk Serving) (a : Adapter) (used : ℕ) (p : Paper) → service_paper (run rest a).answer.answer used ≡ p
+    → service_paper (run (cond b (done (plain (serving.Refused why) d)) rest) a).answer.answer used ≡ cond b (service_paper (serving.Refused why) used) p
 unfolding run
 serves_by true why d rest a used p e = refl
 serves_by false why d rest a used p e = e
@@ -201,59 +201,59 @@ module _ (sound : Bool) (d : Driver) (budget : ℕ) (look frame : List ℕ) (a :
   areas = large look frame
 
   abbrev answers : Answer
-  answers = (run (lookTalk budget d) a).answer.answer
+  answers = (run (look_talk budget d) a).answer.answer
 
   abbrev begun-says : Paper
-  begun-says = servicePaper answers used
+  begun-says = service_paper answers used
 
-  abbrev service-chain : Paper
-  service-chain = cond (not sound) (refused 1) (cond (not d.opened) (refused 13) (cond (not areas) (refused 7) begun-says))
+  abbrev service_chain : Paper
+  service_chain = cond (not sound) (refused 1) (cond (not d.opened) (refused 13) (cond (not areas) (refused 7) begun-says))
 
-  service-says : servicePaper (run (serviceCall sound areas d budget) a).answer.answer used ≡ service-chain
-  unfolding serviceCall
+  service-says : service_paper (run (service_call sound areas d budget) a).answer.answer used ≡ service_chain
+  unfolding service_call
   service-says = serves_by (not sound) StateUnsound d _ a used _ (serves_by (not d.opened) NeverOpened d _ a used _ (serves_by (not areas) AreaShort d _ a used _ refl))
 
   five : (n : ℕ) → begun-says ≡ refused n → (n ≡ 5) × (answers ≡ serving.Refused CardUnfit)
-  five n e = of-look Five five-alone budget d a used n e
+  five n e = of_look Five five_alone budget d a used n e
 
   not_five : (n : ℕ) → eqb n 5 ≡ false → begun-says ≡ refused n → ⊥
   not_five n h e = apart (refused n) (refused 5) h (ap refused (five n e).0)
 
-  six-when : begun-says ≡ paper.short used ↔ Short budget a
-  six-when =
+  six_when : begun-says ≡ paper.short used ↔ Short budget a
+  six_when =
       let w = says-short answers used in
-      let v = short-when budget d a in
+      let v = short_when budget d a in
       (λ e. v.0 (w.0 e), λ k. w.1 (v.1 k))
 
   -- behind 1, 13 and 7
-  begun : (says x : Paper) {P : Type 0} → says ≡ service-chain → eqb 1 (number x) ≡ false → eqb 13 (number x) ≡ false → eqb 7 (number x) ≡ false → (begun-says ≡ x ↔ P) → says ≡ x ↔ Begun sound d look frame P
+  begun : (says x : Paper) {P : Type 0} → says ≡ service_chain → eqb 1 (number x) ≡ false → eqb 13 (number x) ≡ false → eqb 7 (number x) ≡ false → (begun-says ≡ x ↔ P) → says ≡ x ↔ Begun sound d look frame P
   begun says x e h₁ h₁₃ h₇ k = said e (behind-not sound 1 x h₁ (behind-not d.opened 13 x h₁₃ (behind-not areas 7 x h₇ k)))
 
-  service-when : (says : Paper) → says ≡ service-chain → Service-when sound d look frame budget a used says
-  service-when says e =
+  service_when : (says : Paper) → says ≡ service_chain → Service-when sound d look frame budget a used says
+  service_when says e =
       record {
-        refusal-1 = said e (here-not sound 1 (nowhere (not d.opened) 13 (refused 1) refl (nowhere (not areas) 7 (refused 1) refl (not_five 1 refl))));
-        refusal-13 = said e (behind-not sound 1 (refused 13) refl (here-not d.opened 13 (nowhere (not areas) 7 (refused 13) refl (not_five 13 refl))));
-        refusal-7 = said e (behind-not sound 1 (refused 7) refl (behind-not d.opened 13 (refused 7) refl (here-not areas 7 (not_five 7 refl))));
-        refusal-5 =
+        refusal_1 = said e (here-not sound 1 (nowhere (not d.opened) 13 (refused 1) refl (nowhere (not areas) 7 (refused 1) refl (not_five 1 refl))));
+        refusal_13 = said e (behind-not sound 1 (refused 13) refl (here-not d.opened 13 (nowhere (not areas) 7 (refused 13) refl (not_five 13 refl))));
+        refusal_7 = said e (behind-not sound 1 (refused 7) refl (behind-not d.opened 13 (refused 7) refl (here-not areas 7 (not_five 7 refl))));
+        refusal_5 =
             begun says (refused 5) e refl refl refl
-            (λ f. let q = unfit-shown budget d a (five 5 f).1 in (omega (arith, q.0), q.1), λ p. ap (λ (x : Answer). servicePaper x used) (unfit-said budget d a (omega (arith, p.0)) p.1));
-        refusal-6 = begun says (paper.short used) e refl refl refl six-when;
+            (λ f. let q = unfit-shown budget d a (five 5 f).1 in (omega (arith, q.0), q.1), λ p. ap (λ (x : Answer). service_paper x used) (unfit-said budget d a (omega (arith, p.0)) p.1));
+        refusal_6 = begun says (paper.short used) e refl refl refl six_when;
         enough = λ h.
-            by-test (six answers)
+            by_test (six answers)
             (λ y. absurd (h.1.1.1 ((begun says (paper.short used) e refl refl refl (says-short answers used)).1 (h.0, (h.1.0, (h.1.1.0, y))))))
             (λ n. spared budget d a n);
         no_other = λ n f. among sound d.opened areas begun-says n (λ g. (five n g).0) (sym e ∙ f);
       }
 
-pub refused-exactly-when : Refused-exactly-when
-refused-exactly-when =
+pub refused_exactly_when_lem : RefusedExactlyWhen
+refused_exactly_when_lem =
     record {
-      opens = λ c ram dir d w₀ w₁ w₂ r ram' dir' k. open-when (soundState c ram dir d) d (openPaper r.answer) (ap openPaper k.answer ∙ open-says (soundState c ram dir d) d w₀ w₁ w₂ (view c ram dir));
-      sends = λ c ram dir d packet r ram' dir' k. send-when (soundState c ram dir d) d packet (view c ram dir) (sendPaper r.answer) (ap sendPaper k.answer ∙ send-says (soundState c ram dir d) d packet (view c ram dir));
+      opens = λ c ram dir d w₀ w₁ w₂ r ram' dir' k. open_when (sound_state c ram dir d) d (open_paper r.answer) (ap open_paper k.answer ∙ open_says (sound_state c ram dir d) d w₀ w₁ w₂ (view c ram dir));
+      sends = λ c ram dir d packet r ram' dir' k. send_when (sound_state c ram dir d) d packet (view c ram dir) (send_paper r.answer) (ap send_paper k.answer ∙ send-says (sound_state c ram dir d) d packet (view c ram dir));
       services = λ c ram dir d budget look frame r ram' dir' look' frame' k.
-          service-when (soundState c ram dir d) d budget look frame (view c ram dir) r.used (servicePaper r.answer r.used)
-          (ap (λ (x : Answer). servicePaper x r.used) k.answer ∙ service-says (soundState c ram dir d) d budget look frame (view c ram dir) r.used);
-      one-need = one-need;
+          service_when (sound_state c ram dir d) d budget look frame (view c ram dir) r.used (service_paper r.answer r.used)
+          (ap (λ (x : Answer). service_paper x r.used) k.answer ∙ service-says (sound_state c ram dir d) d budget look frame (view c ram dir) r.used);
+      one_need = one_need;
       endless = λ a s on w f u t x g budget n k. absurd (endless a s on w f u t x g a n refl k);
     }

@@ -48,17 +48,17 @@ pub record SameEnd (refused : Bool) (e e' : End) : Type 0 where
   pub counts : SameCounts e.card e'.card
   pub whole : refused ≡ true → e ≡ e'
 
-abbrev pub isRefusal : Reply → Bool
-isRefusal (card.refused n) = true
-isRefusal card.done = false
-isRefusal (card.value v) = false
+abbrev pub is_refusal : Reply → Bool
+is_refusal (card.refused n) = true
+is_refusal card.done = false
+is_refusal (card.value v) = false
 
 -- a refusal that changes nothing; short of budget (6) keeps finished items
 abbrev pub is_refused : Paper → Bool
 is_refused driver.opened = false
 is_refused (driver.ticket n) = false
 is_refused (driver.report t s used) = false
-is_refused (driver.statusAlone s used) = false
+is_refused (driver.status_alone s used) = false
 is_refused (driver.frame n used) = false
 is_refused (driver.idle used) = false
 is_refused (driver.short used) = false

@@ -2,12 +2,12 @@
 use Rattle.std.specs.Prelude.{◌≡◌, true, List, ℕ, length}
 use Rattle.card_rules.specs.declared.Card.{Card}
 use Rattle.card_rules.specs.declared.Done.TheVariants as finished
-use Rattle.card_rules.specs.Calls.{isWord}
-use Rattle.card_rules.specs.Contracts as contract
+use Rattle.card_rules.specs.Calls.{is_word}
+use Rattle.card_rules.specs.CardContracts as contract
 
 -- A card at power-on stores no frame. After a word is written to it, any memory of the right size meets the contract.
-abbrev pub The-memory-is-left-free : Type 0
-The-memory-is-left-free =
-    (words : List ℕ) (c : Card) → contract.power-on words c → (ram dir ram' dir' : List ℕ) →
-    length ram ≡ 8192 → length dir ≡ 1110 → length ram' ≡ 8192 → length dir' ≡ 1110 → (o v : ℕ) → isWord o ≡ true →
-    contract.write_word c ram dir o v (record { card = c; answer = finished.Done }) ram' dir'
+abbrev pub TheMemoryIsLeftFree : Type 0
+TheMemoryIsLeftFree =
+    (words : List ℕ) (c : Card) → contract.PowerOn words c → (ram dir ram' dir' : List ℕ) →
+    length ram ≡ 8192 → length dir ≡ 1110 → length ram' ≡ 8192 → length dir' ≡ 1110 → (o v : ℕ) → is_word o ≡ true →
+    contract.WritesWord c ram dir o v (record { card = c; answer = finished.Done }) ram' dir'

@@ -8,9 +8,9 @@ use lib.Dec.{eqb}
 use lib.ListN.{length}
 use Rattle.port_rules.specs.declared.IdState.{IdState}
 use Rattle.port_rules.specs.Port.{Access, Talk, done, ask, write, read, run, value, after}
-use Rattle.port_rules.specs.Search.{put, puts, idBytes, bits, callUp, readAddress, rounds, search, allOnes}
-use Rattle.found.specs.Theorems.{The-search-ends}
-use Rattle.found.proofs.Called.{idBytes-length}
+use Rattle.port_rules.specs.Search.{put, puts, id_bytes, bits, call_up, read_address, rounds, search, all_ones}
+use Rattle.found.specs.Theorems.{TheSearchEnds}
+use Rattle.found.proofs.Called.{id_bytes-length}
 
 -- at most b accesses
 abbrev Within : {A : Type 0} → ℕ → Talk A → ℕ → Type 0
@@ -25,9 +25,9 @@ unfolding puts
 within-puts p b [] k h cs = omega (arith, h cs)
 within-puts p b (x ∷ xs) k h cs = omega (arith, within-ask p (length xs + b) (write x) (λ _. puts xs k) (λ _. within-puts p b xs k h) cs)
 
-within-call : {A : Type 0} (p b : ℕ) (k : Talk A) → Within p k b → Within p (callUp k) (257 + b)
-unfolding callUp puts
-within-call p b k h cs = omega (arith, within-puts p b (0 ∷ (0 ∷ idBytes 0 255)) k h cs, idBytes-length 255 0)
+within-call : {A : Type 0} (p b : ℕ) (k : Talk A) → Within p k b → Within p (call_up k) (257 + b)
+unfolding call_up puts
+within-call p b k h cs = omega (arith, within-puts p b (0 ∷ (0 ∷ id_bytes 0 255)) k h cs, id_bytes-length 255 0)
 
 within-bits : {A : Type 0} (p b n a : ℕ) (k : ℕ → Talk A) → ((v : ℕ) → Within p (k v) b) → Within p (bits n a k) (n + b)
 unfolding bits
@@ -37,13 +37,13 @@ within-bits p b (suc n) a k h cs = omega (arith, within-ask p (n + b) read (λ v
 within_word : {A : Type 0} (p b x a : ℕ) (k : ℕ → Talk A) → ((v : ℕ) → Within p (k v) b) → Within p (put x (bits 16 a k)) (17 + b)
 within_word p b x a k h cs = omega (arith, within-ask p (16 + b) (write x) (λ _. bits 16 a k) (λ _. within-bits p b 16 a k h) cs)
 
-within-address : {A : Type 0} (p b : ℕ) (k : ℕ → Talk A) → ((v : ℕ) → Within p (k v) b) → Within p (readAddress k) (17 + (17 + (17 + b)))
-unfolding readAddress
+within-address : {A : Type 0} (p b : ℕ) (k : ℕ → Talk A) → ((v : ℕ) → Within p (k v) b) → Within p (read_address k) (17 + (17 + (17 + b)))
+unfolding read_address
 within-address p b k h = within_word p (17 + (17 + b)) 128 0 _ (λ v. within_word p (17 + b) 129 0 _ (λ w. within_word p b 130 0 _ (λ x. h _)))
 
-within-choice : {A : Type 0} (p n : ℕ) (t u : Talk A) → Within p t n → Within p u n → (b : Bool) → Within p (cond b t u) n
-within-choice p n t u h g true = h
-within-choice p n t u h g false = g
+within_choice : {A : Type 0} (p n : ℕ) (t u : Talk A) → Within p t n → Within p u n → (b : Bool) → Within p (cond b t u) n
+within_choice p n t u h g true = h
+within_choice p n t u h g false = g
 
 within-rounds : {A : Type 0} (p b free : ℕ) (k : List ℕ → Talk A) → ((xs : List ℕ) → Within p (k xs) b) → Within p (rounds free k) (309 * free + b)
 unfolding rounds
@@ -53,10 +53,10 @@ within-rounds p b (suc free) k h cs =
     omega (
       arith,
       within-call p (17 + (17 + (17 + n))) _ (within-address p n _ (λ v.
-          within-choice p n (k []) (put (208 + (7 - free)) (rounds free (λ found. k (v ∷ found)))) (λ ds. omega (arith, h [] ds))
-          (within-ask p (309 * free + b) (write (208 + (7 - free))) (λ _. rounds free (λ found. k (v ∷ found))) (λ _. within-rounds p b free (λ found. k (v ∷ found)) (λ xs. h (v ∷ xs)))) (eqb v allOnes))) cs,
+          within_choice p n (k []) (put (208 + (7 - free)) (rounds free (λ found. k (v ∷ found)))) (λ ds. omega (arith, h [] ds))
+          (within-ask p (309 * free + b) (write (208 + (7 - free))) (λ _. rounds free (λ found. k (v ∷ found))) (λ _. within-rounds p b free (λ found. k (v ∷ found)) (λ xs. h (v ∷ xs)))) (eqb v all_ones))) cs,
     )
 
-pub ends : The-search-ends
+pub ends : TheSearchEnds
 unfolding search run
 ends p cs = omega (arith, within-call p (1 + (309 * 7 + 0)) (put 208 (rounds 7 done)) (within-ask p (309 * 7 + 0) (write 208) (λ _. rounds 7 done) (λ _. within-rounds p 0 7 done (λ xs ds. omega arith))) cs)

@@ -8,10 +8,10 @@ use mathlib.Core.List.{List, [], ◌∷◌, map}
 use lib.Dec.{eqb}
 use lib.ListN.{length}
 use borrow.Author.Tests.{eqb-false}
-use Rattle.port_rules.specs.Card.{idFresh}
-use Rattle.found.specs.Theorems.{All, Distinct, station, Findable, FindsAll, ascending, insert, place, freshCards, searchOf, Fresh-cards-are-found}
+use Rattle.port_rules.specs.Card.{id_fresh}
+use Rattle.found.specs.Theorems.{All, Distinct, station, Findable, FindsAll, ascending, insert, place, fresh_cards, search_of, FreshCardsAreFound}
 use Rattle.found.proofs.Run.{all_map}
-use Rattle.found.proofs.Found.{finds-every-card}
+use Rattle.found.proofs.Found.{finds_every_card}
 
 -- x is not in the list; no number is in it twice
 abbrev absent : ℕ → List ℕ → Bool
@@ -38,30 +38,30 @@ differ (x ∷ xs) t = go (absent x xs) refl t (differ xs)
     go true e t r = (not_there x xs e, r t)
     go false e t r = absurd (false≢true t)
 
-findable : (n : ℕ) → n < 65536 → Findable 1 (idFresh (0x0200 ∷ 0 ∷ n ∷ []))
-findable n h = record { fits0 = omega arith; fits1 = omega arith; fits2 = h; notOnes = λ e. omega arith; here = λ e. absurd (false≢true e) }
+findable : (n : ℕ) → n < 65536 → Findable 1 (id_fresh (0x0200 ∷ 0 ∷ n ∷ []))
+findable n h = record { fits0 = omega arith; fits1 = omega arith; fits2 = h; not_ones = λ e. omega arith; here = λ e. absurd (false≢true e) }
 
-finds : (ends : List ℕ) → length (freshCards ends) ≤ 7 → differing (map station (freshCards ends)) ≡ true → All (λ n. n < 65536) ends → FindsAll 1 (freshCards ends) (searchOf ends)
-finds ends few t small = finds-every-card 1 (freshCards ends) (record {
+finds : (ends : List ℕ) → length (fresh_cards ends) ≤ 7 → differing (map station (fresh_cards ends)) ≡ true → All (λ n. n < 65536) ends → FindsAll 1 (fresh_cards ends) (search_of ends)
+finds ends few t small = finds_every_card 1 (fresh_cards ends) (record {
   port = omega arith;
   few = few;
-  distinct = differ (map station (freshCards ends)) t;
-  findable = all_map {P = λ n. n < 65536} (Findable 1) (λ n. idFresh (0x0200 ∷ 0 ∷ n ∷ [])) findable ends small;
+  distinct = differ (map station (fresh_cards ends)) t;
+  findable = all_map {P = λ n. n < 65536} (Findable 1) (λ n. id_fresh (0x0200 ∷ 0 ∷ n ∷ [])) findable ends small;
 })
 
-two : FindsAll 1 (freshCards (1 ∷ 0 ∷ [])) (searchOf (1 ∷ 0 ∷ []))
+two : FindsAll 1 (fresh_cards (1 ∷ 0 ∷ [])) (search_of (1 ∷ 0 ∷ []))
 two = finds (1 ∷ 0 ∷ []) (omega arith) refl (omega arith, (omega arith, tt))
 
-sorted : (searchOf (1 ∷ 0 ∷ [])).answer ≡ 0x0200_0000_0000 ∷ 0x0200_0000_0001 ∷ []
+sorted : (search_of (1 ∷ 0 ∷ [])).answer ≡ 0x0200_0000_0000 ∷ 0x0200_0000_0001 ∷ []
 unfolding ascending insert
 sorted = two.found
 
-pub fresh-cards-are-found : Fresh-cards-are-found
+pub fresh_cards_are_found_lem : FreshCardsAreFound
 unfolding place
-fresh-cards-are-found = record {
+fresh_cards_are_found_lem = record {
   none = (finds [] (omega arith) refl tt).cost;
   two = two.cost;
   seven = (finds (7 ∷ 3 ∷ 1 ∷ 5 ∷ 2 ∷ 6 ∷ 4 ∷ []) (omega arith) refl (omega arith, (omega arith, (omega arith, (omega arith, (omega arith, (omega arith, (omega arith, tt)))))))).cost;
   found = sorted;
-  tags = two.tags ∙ ap (λ (xs : List ℕ). map (λ s. place (station s) xs) (freshCards (1 ∷ 0 ∷ []))) sorted;
+  tags = two.tags ∙ ap (λ (xs : List ℕ). map (λ s. place (station s) xs) (fresh_cards (1 ∷ 0 ∷ []))) sorted;
 }

@@ -9,14 +9,14 @@ use native.Mathlib.Omega.{arith}
 use lib.Dec.{eqb}
 use borrow.Author.Tests.{lt-ltb, le-ltb, eq-eqb, ne_eqb, eqb-true, eqb-false}
 use Rattle.port_rules.specs.declared.IdState.{IdState}
-use Rattle.port_rules.specs.Card.{idWrite, idWait, idCommand, idDrives}
+use Rattle.port_rules.specs.Card.{id_write, id_wait, id_command, id_drives}
 use Rattle.port_rules.specs.Port.{Talk}
-use Rattle.port_rules.specs.Search.{put, bits, callUp, readAddress, allOnes}
+use Rattle.port_rules.specs.Search.{put, bits, call_up, read_address, all_ones}
 use Rattle.found.specs.Theorems.{All, word_at, station, keeping, Here, Findable}
 use Rattle.port_rules.specs.Leads.{Leads, on}
 use Rattle.found.proofs.Run.{writes, map-map, all_map}
 use Rattle.found.proofs.Called.{obeying, out, calls}
-use Rattle.found.proofs.Contend.{Some, some-map, Drives, Above, Mute, reads, reads-ones, ones, sixteen, heard-mute, heard-same, heard-other, out-mute}
+use Rattle.found.proofs.Contend.{Some, some-map, Drives, Above, Mute, reads, reads-ones, ones, sixteen, heard_mute, heard-same, heard_other, out_mute}
 use Rattle.found.specs.OneCard.{heard}
 
 -- what a round asks of a card: 16 bits a word, and that it is not in ID_CMD at another port
@@ -30,30 +30,30 @@ pub readable : (p : ℕ) (s : IdState) → Findable p s → Readable p s
 readable p s f = record { fits0 = f.fits0; fits1 = f.fits1; fits2 = f.fits2; here = f.here }
 
 -- commands to a card in ID_CMD: a read command, a tag where there is none, a tag where there is one; and to a card that is out
-pub asked : (p t w j : ℕ) (s : IdState) → j < 64 → idWrite (obeying p t w s) p (128 + j) ≡ obeying p t (word_at j s) s
-unfolding idWrite idCommand
+pub asked : (p t w j : ℕ) (s : IdState) → j < 64 → id_write (obeying p t w s) p (128 + j) ≡ obeying p t (word_at j s) s
+unfolding id_write id_command
 asked p t w j s h =
     let e : 128 + j - 128 ≡ j = omega arith in
     rw (eq-eqb p p refl, le-ltb (128 + j) 128 (omega arith), lt-ltb (128 + j) 192 (omega arith), e)
 
-takes : (p w t : ℕ) (s : IdState) → 0 < t → t < 8 → idWrite (obeying p 0 w s) p (208 + t) ≡ obeying p t w s
-unfolding idWrite idCommand
+takes : (p w t : ℕ) (s : IdState) → 0 < t → t < 8 → id_write (obeying p 0 w s) p (208 + t) ≡ obeying p t w s
+unfolding id_write id_command
 takes p w t s l h =
     let e : 208 + t - 208 ≡ t = omega arith in
     rw (eq-eqb p p refl, le-ltb (208 + t) 128 (omega arith), le-ltb (208 + t) 192 (omega arith), le-ltb (208 + t) 208 (omega arith), lt-ltb (208 + t) 216 (omega arith), ne_eqb (208 + t) 208 (omega arith), e)
 
-keeps : (p v w t : ℕ) (s : IdState) → 0 < t → t < 8 → (v ≡ 0 → ⊥) → idWrite (obeying p v w s) p (208 + t) ≡ obeying p v w s
-unfolding idWrite idCommand
+keeps : (p v w t : ℕ) (s : IdState) → 0 < t → t < 8 → (v ≡ 0 → ⊥) → id_write (obeying p v w s) p (208 + t) ≡ obeying p v w s
+unfolding id_write id_command
 keeps p v w t s l h n =
     rw (eq-eqb p p refl, le-ltb (208 + t) 128 (omega arith), le-ltb (208 + t) 192 (omega arith), le-ltb (208 + t) 208 (omega arith), lt-ltb (208 + t) 216 (omega arith), ne_eqb (208 + t) 208 (omega arith), ne_eqb v 0 n)
 
-pub deaf : (p w x : ℕ) (s : IdState) → p < 16 → (x ≡ 0 → ⊥) → idWrite (out w s) p x ≡ out w s
-unfolding idWrite idWait
+pub deaf : (p w x : ℕ) (s : IdState) → p < 16 → (x ≡ 0 → ⊥) → id_write (out w s) p x ≡ out w s
+unfolding id_write id_wait
 deaf p w x s h n = rw (ne_eqb x 0 n, ne_eqb p 16 (omega arith))
 
-pub obeying-drives : (p t w : ℕ) (s : IdState) → idDrives (obeying p t w s) p ≡ eqb t 0
-unfolding idDrives
-obeying-drives p t w s = rw (eq-eqb p p refl)
+pub obeying_drives : (p t w : ℕ) (s : IdState) → id_drives (obeying p t w s) p ≡ eqb t 0
+unfolding id_drives
+obeying_drives p t w s = rw (eq-eqb p p refl)
 
 -- what has become of s within a round, where P says that its words so far are those of the least
 pub data Now (p : ℕ) (P : Type 0) (s h : IdState) : Type 0 where
@@ -62,21 +62,21 @@ pub data Now (p : ℕ) (P : Type 0) (s h : IdState) : Type 0 where
   fell : s.tag ≡ 0 → (P → ⊥) → (w : ℕ) → h ≡ out w s → Now p P s h
 
 abbrev asks : ℕ → ℕ → IdState → IdState
-asks p j h = idWrite h p (128 + j)
+asks p j h = id_write h p (128 + j)
 
 -- a word more
 now_on : (p j m : ℕ) (P : Type 0) (s h : IdState) → p < 16 → j < 64 → word_at j s < 65536 → m < 65536 → Now p P s h → Now p (P × (word_at j s ≡ m)) s (heard p 16 m (asks p j h))
 now_on p j m P s h p< j< w< m< (tagged n w e) =
-    tagged n (word_at j s) (ap (λ (x : IdState). heard p 16 m (asks p j x)) e ∙ ap (heard p 16 m) (asked p s.tag w j s j<) ∙ heard-mute p 16 m (obeying p s.tag (word_at j s) s) (obeying-drives p s.tag (word_at j s) s ∙ ne_eqb s.tag 0 n))
+    tagged n (word_at j s) (ap (λ (x : IdState). heard p 16 m (asks p j x)) e ∙ ap (heard p 16 m) (asked p s.tag w j s j<) ∙ heard_mute p 16 m (obeying p s.tag (word_at j s) s) (obeying_drives p s.tag (word_at j s) s ∙ ne_eqb s.tag 0 n))
 now_on p j m P s h p< j< w< m< (fell t n w e) =
-    fell t (λ q. n q.0) w (ap (λ (x : IdState). heard p 16 m (asks p j x)) e ∙ ap (heard p 16 m) (deaf p w (128 + j) s p< (omega arith)) ∙ heard-mute p 16 m (out w s) (out-mute p w s))
+    fell t (λ q. n q.0) w (ap (λ (x : IdState). heard p 16 m (asks p j x)) e ∙ ap (heard p 16 m) (deaf p w (128 + j) s p< (omega arith)) ∙ heard_mute p 16 m (out w s) (out_mute p w s))
 now_on p j m P s h p< j< w< m< (stands t q w e) = go (eqb (word_at j s) m) refl
   where
     c : IdState
     c = obeying p s.tag (word_at j s) s
 
-    d : idDrives c p ≡ true
-    d = obeying-drives p s.tag (word_at j s) s ∙ eq-eqb s.tag 0 t
+    d : id_drives c p ≡ true
+    d = obeying_drives p s.tag (word_at j s) s ∙ eq-eqb s.tag 0 t
 
     f : asks p j h ≡ c
     f = ap (asks p j) e ∙ asked p s.tag w j s j<
@@ -86,21 +86,21 @@ now_on p j m P s h p< j< w< m< (stands t q w e) = go (eqb (word_at j s) m) refl
         let (v, g) = heard-same p 16 c d in
         stands t (q, eqb-true _ _ r) v (ap (heard p 16 m) f ∙ ap (λ (x : ℕ). heard p 16 x c) (sym (eqb-true _ _ r)) ∙ g)
     go false r =
-        let (v, g) = heard-other p m c d w< m< (eqb-false _ _ r) in
+        let (v, g) = heard_other p m c d w< m< (eqb-false _ _ r) in
         fell t (λ k. eqb-false _ _ r k.1) v (ap (heard p 16 m) f ∙ g)
 
 -- what the others need: who drives after a read command has a word not below m
 now-above : (p j m : ℕ) (P : Type 0) (s h : IdState) → p < 16 → j < 64 → word_at j s < 65536 → (s.tag ≡ 0 → P → m ≤ word_at j s) → Now p P s h → Above p m (asks p j h)
 now-above p j m P s h p< j< w< l (tagged n w e) =
-    rw (e, asked p s.tag w j s j<) (λ d. absurd (false≢true (sym (ne_eqb s.tag 0 n) ∙ sym (obeying-drives p s.tag (word_at j s) s) ∙ d)))
+    rw (e, asked p s.tag w j s j<) (λ d. absurd (false≢true (sym (ne_eqb s.tag 0 n) ∙ sym (obeying_drives p s.tag (word_at j s) s) ∙ d)))
 now-above p j m P s h p< j< w< l (stands t q w e) = rw (e, asked p s.tag w j s j<) (λ d. (l t q, w<))
 now-above p j m P s h p< j< w< l (fell t n w e) =
-    rw (e, deaf p w (128 + j) s p< (omega arith)) (λ d. absurd (false≢true (sym (out-mute p w s) ∙ d)))
+    rw (e, deaf p w (128 + j) s p< (omega arith)) (λ d. absurd (false≢true (sym (out_mute p w s) ∙ d)))
 
-now-drives : (p j m : ℕ) (P : Type 0) (s h : IdState) → j < 64 → s.tag ≡ 0 → P → word_at j s ≡ m → Now p P s h → Drives p m (asks p j h)
-now-drives p j m P s h j< t q r (tagged n w e) = absurd (n t)
-now-drives p j m P s h j< t q r (stands t' q' w e) = rw (e, asked p s.tag w j s j<) (obeying-drives p s.tag (word_at j s) s ∙ eq-eqb s.tag 0 t, r)
-now-drives p j m P s h j< t q r (fell t' n w e) = absurd (n q)
+now_drives : (p j m : ℕ) (P : Type 0) (s h : IdState) → j < 64 → s.tag ≡ 0 → P → word_at j s ≡ m → Now p P s h → Drives p m (asks p j h)
+now_drives p j m P s h j< t q r (tagged n w e) = absurd (n t)
+now_drives p j m P s h j< t q r (stands t' q' w e) = rw (e, asked p s.tag w j s j<) (obeying_drives p s.tag (word_at j s) s ∙ eq-eqb s.tag 0 t, r)
+now_drives p j m P s h j< t q r (fell t' n w e) = absurd (n q)
 
 -- a read command and sixteen reads, over cards of which each is f of a card that meets G
 word : {A : Type 0} (p j m : ℕ) (k : ℕ → Talk A) (G P : IdState → Type 0) (f : IdState → IdState) → p < 16 → j < 64 → m < 65536 →
@@ -110,7 +110,7 @@ word : {A : Type 0} (p j m : ℕ) (k : ℕ → Talk A) (G P : IdState → Type 0
 word p j m k G P f p< j< m< now w< l cs g some =
     let one = writes p (128 + j) (bits 16 0 k) f (λ s. asks p j (f s)) (λ (s : IdState) (h : G s). refl) cs g in
     let rest = reads p 16 m 0 k (map (λ s. asks p j (f s)) cs) m<
-    (some-map (λ s. G s × (s.tag ≡ 0) × P s × (word_at j s ≡ m)) (Drives p m) (λ s. asks p j (f s)) (λ s q. now-drives p j m (P s) s (f s) j< q.1 q.2 q.3 (now s q.0)) cs some)
+    (some-map (λ s. G s × (s.tag ≡ 0) × P s × (word_at j s ≡ m)) (Drives p m) (λ s. asks p j (f s)) (λ s q. now_drives p j m (P s) s (f s) j< q.1 q.2 q.3 (now s q.0)) cs some)
     (all_map {P = G} (Above p m) (λ s. asks p j (f s)) (λ s h. now-above p j m (P s) s (f s) p< j< (w< s h) (l s h) (now s h)) cs g) in
     subst₂ (λ (n : ℕ) (ds : List IdState). Leads p (put (128 + j) (bits 16 0 k)) (map f cs) 17 (k n) ds) (sixteen m m<) (map-map (heard p 16 m) (λ s. asks p j (f s)) cs) (on one rest)
 
@@ -118,14 +118,14 @@ word p j m k G P f p< j< m< now w< l cs g some =
 abbrev pub Rival : ℕ → IdState → IdState → Type 0
 Rival p c s = Readable p s × (s.tag ≡ 0 → station c ≤ station s)
 
-abbrev pub agrees1 : IdState → IdState → Type 0
-agrees1 c s = Unit {0} × (word_at 0 s ≡ word_at 0 c)
+abbrev pub Agrees1 : IdState → IdState → Type 0
+Agrees1 c s = Unit {0} × (word_at 0 s ≡ word_at 0 c)
 
-abbrev pub agrees2 : IdState → IdState → Type 0
-agrees2 c s = agrees1 c s × (word_at 1 s ≡ word_at 1 c)
+abbrev pub Agrees2 : IdState → IdState → Type 0
+Agrees2 c s = Agrees1 c s × (word_at 1 s ≡ word_at 1 c)
 
-abbrev pub agrees3 : IdState → IdState → Type 0
-agrees3 c s = agrees2 c s × (word_at 2 s ≡ word_at 2 c)
+abbrev pub Agrees3 : IdState → IdState → Type 0
+Agrees3 c s = Agrees2 c s × (word_at 2 s ≡ word_at 2 c)
 
 abbrev pub called : ℕ → IdState → IdState
 called p s = obeying p s.tag s.shift s
@@ -144,14 +144,14 @@ now0 p s = go (eqb s.tag 0) refl
     go false e = tagged (eqb-false _ _ e) s.shift refl
 
 module _ (p : ℕ) (c : IdState) (p< : p < 16) (fc : Readable p c) (free : c.tag ≡ 0) where
-  now1 : (s : IdState) → Readable p s → Now p (agrees1 c s) s (contended p 0 c (called p s))
+  now1 : (s : IdState) → Readable p s → Now p (Agrees1 c s) s (contended p 0 c (called p s))
   now1 s f = now_on p 0 (word_at 0 c) (Unit {0}) s (called p s) p< (omega arith) f.fits0 fc.fits0 (now0 p s)
 
-  now2 : (s : IdState) → Readable p s → Now p (agrees2 c s) s (contended p 1 c (contended p 0 c (called p s)))
-  now2 s f = now_on p 1 (word_at 1 c) (agrees1 c s) s (contended p 0 c (called p s)) p< (omega arith) f.fits1 fc.fits1 (now1 s f)
+  now2 : (s : IdState) → Readable p s → Now p (Agrees2 c s) s (contended p 1 c (contended p 0 c (called p s)))
+  now2 s f = now_on p 1 (word_at 1 c) (Agrees1 c s) s (contended p 0 c (called p s)) p< (omega arith) f.fits1 fc.fits1 (now1 s f)
 
-  pub now3 : (s : IdState) → Readable p s → Now p (agrees3 c s) s (judged p c s)
-  now3 s f = now_on p 2 (word_at 2 c) (agrees2 c s) s (contended p 1 c (contended p 0 c (called p s))) p< (omega arith) f.fits2 fc.fits2 (now2 s f)
+  pub now3 : (s : IdState) → Readable p s → Now p (Agrees3 c s) s (judged p c s)
+  now3 s f = now_on p 2 (word_at 2 c) (Agrees2 c s) s (contended p 1 c (contended p 0 c (called p s))) p< (omega arith) f.fits2 fc.fits2 (now2 s f)
 
   own : Rival p c c
   own = (fc, λ _. omega arith)
@@ -162,19 +162,19 @@ module _ (p : ℕ) (c : IdState) (p< : p < 16) (fc : Readable p c) (free : c.tag
   weaken x Q (y ∷ ys) q (inr a) = inr (weaken x Q ys q a)
 
   pub round : {A : Type 0} (k : ℕ → Talk A) (cs : List IdState) → All (Rival p c) cs → Some (λ s. s ≡ c) cs →
-      Leads p (callUp (readAddress k)) cs 308 (k (station c)) (map (judged p c) cs)
-  unfolding readAddress
+      Leads p (call_up (read_address k)) cs 308 (k (station c)) (map (judged p c) cs)
+  unfolding read_address
   round k cs a some =
-      let up = calls p (readAddress k) (λ (s : IdState) (q : Rival p c s). q.0.here) cs a in
+      let up = calls p (read_address k) (λ (s : IdState) (q : Rival p c s). q.0.here) cs a in
       let w0 = word p 0 (word_at 0 c) (λ x. put 129 (bits 16 0 (λ y. put 130 (bits 16 0 (λ z. k ((x * 65536 + y) * 65536 + z)))))) (Rival p c) (λ s. Unit {0}) (called p) p< (omega arith) fc.fits0
       (λ s q. now0 p s) (λ s q. q.0.fits0) (λ s q t r. omega (arith, q.0.fits0, q.0.fits1, q.0.fits2, fc.fits1, fc.fits2, q.1 t)) cs a
       (weaken c (λ s. Rival p c s × (s.tag ≡ 0) × Unit {0} × (word_at 0 s ≡ word_at 0 c)) cs (own, free, tt, refl) some) in
-      let w1 = word p 1 (word_at 1 c) (λ y. put 130 (bits 16 0 (λ z. k ((word_at 0 c * 65536 + y) * 65536 + z)))) (Rival p c) (agrees1 c) (λ s. contended p 0 c (called p s)) p< (omega arith) fc.fits1
+      let w1 = word p 1 (word_at 1 c) (λ y. put 130 (bits 16 0 (λ z. k ((word_at 0 c * 65536 + y) * 65536 + z)))) (Rival p c) (Agrees1 c) (λ s. contended p 0 c (called p s)) p< (omega arith) fc.fits1
       (λ s q. now1 s q.0) (λ s q. q.0.fits1) (λ s q t r. omega (arith, q.0.fits1, q.0.fits2, fc.fits1, fc.fits2, q.1 t, r.1)) cs a
-      (weaken c (λ s. Rival p c s × (s.tag ≡ 0) × agrees1 c s × (word_at 1 s ≡ word_at 1 c)) cs (own, free, (tt, refl), refl) some) in
-      let w2 = word p 2 (word_at 2 c) (λ z. k ((word_at 0 c * 65536 + word_at 1 c) * 65536 + z)) (Rival p c) (agrees2 c) (λ s. contended p 1 c (contended p 0 c (called p s))) p< (omega arith) fc.fits2
+      (weaken c (λ s. Rival p c s × (s.tag ≡ 0) × Agrees1 c s × (word_at 1 s ≡ word_at 1 c)) cs (own, free, (tt, refl), refl) some) in
+      let w2 = word p 2 (word_at 2 c) (λ z. k ((word_at 0 c * 65536 + word_at 1 c) * 65536 + z)) (Rival p c) (Agrees2 c) (λ s. contended p 1 c (contended p 0 c (called p s))) p< (omega arith) fc.fits2
       (λ s q. now2 s q.0) (λ s q. q.0.fits2) (λ s q t r. omega (arith, q.0.fits2, fc.fits2, q.1 t, r.0.1, r.1)) cs a
-      (weaken c (λ s. Rival p c s × (s.tag ≡ 0) × agrees2 c s × (word_at 2 s ≡ word_at 2 c)) cs (own, free, ((tt, refl), refl), refl) some) in
+      (weaken c (λ s. Rival p c s × (s.tag ≡ 0) × Agrees2 c s × (word_at 2 s ≡ word_at 2 c)) cs (own, free, ((tt, refl), refl), refl) some) in
       on up (on w0 (on w1 w2))
 
 -- no untagged card: forty-eight ones
@@ -189,13 +189,13 @@ nobody : {A : Type 0} (p j : ℕ) (w : IdState → ℕ) (k : ℕ → Talk A) (cs
 unfolding ones
 nobody p j w k cs j< t =
     let one = writes p (128 + j) (bits 16 0 k) (λ s. obeying p s.tag (w s) s) (idle p j) (λ (s : IdState) (h : Tagged s). asked p s.tag (w s) j s j<) cs t in
-    on one (reads-ones p 16 0 k (map (idle p j) cs) (all_map {P = Tagged} (Mute p) (idle p j) (λ s h. obeying-drives p s.tag (word_at j s) s ∙ ne_eqb s.tag 0 h) cs t))
+    on one (reads-ones p 16 0 k (map (idle p j) cs) (all_map {P = Tagged} (Mute p) (idle p j) (λ s h. obeying_drives p s.tag (word_at j s) s ∙ ne_eqb s.tag 0 h) cs t))
 
-pub round-none : {A : Type 0} (p : ℕ) (k : ℕ → Talk A) (cs : List IdState) → All (Readable p) cs → All Tagged cs →
-    Leads p (callUp (readAddress k)) cs 308 (k allOnes) (map (idle p 2) cs)
-unfolding readAddress
-round-none p k cs f t =
-    on (calls p (readAddress k) (λ (s : IdState) (q : Readable p s). q.here) cs f)
+pub round_none : {A : Type 0} (p : ℕ) (k : ℕ → Talk A) (cs : List IdState) → All (Readable p) cs → All Tagged cs →
+    Leads p (call_up (read_address k)) cs 308 (k all_ones) (map (idle p 2) cs)
+unfolding read_address
+round_none p k cs f t =
+    on (calls p (read_address k) (λ (s : IdState) (q : Readable p s). q.here) cs f)
     (on (nobody p 0 (λ s. s.shift) (λ x. put 129 (bits 16 0 (λ y. put 130 (bits 16 0 (λ z. k ((x * 65536 + y) * 65536 + z)))))) cs (omega arith) t)
     (on (nobody p 1 (word_at 0) (λ y. put 130 (bits 16 0 (λ z. k ((65535 * 65536 + y) * 65536 + z)))) cs (omega arith) t)
     (nobody p 2 (word_at 1) (λ z. k ((65535 * 65536 + 65535) * 65536 + z)) cs (omega arith) t)))
@@ -211,10 +211,10 @@ pub record After (p t : ℕ) (c s e : IdState) : Type 0 where
   pub kept : keeping e ≡ keeping s
   pub here' : e.command ≡ true → e.port ≡ p
 
-pub ends : (p t : ℕ) (c s h : IdState) → p < 16 → 0 < t → t < 8 → Readable p c → Readable p s → Now p (agrees3 c s) s h → After p t c s (idWrite h p (208 + t))
+pub ends : (p t : ℕ) (c s h : IdState) → p < 16 → 0 < t → t < 8 → Readable p c → Readable p s → Now p (Agrees3 c s) s h → After p t c s (id_write h p (208 + t))
 ends p t c s h p< t> t< fc fs (tagged n w e) = rw (e, keeps p s.tag w t s t> t< n) (record { tagging = was n refl; kept = refl; here' = λ _. refl })
 ends p t c s h p< t> t< fc fs (stands z q w e) =
-    let f : idWrite h p (208 + t) ≡ obeying p t w s = ap (λ (x : IdState). idWrite x p (208 + t)) (e ∙ ap (λ (v : ℕ). obeying p v w s) z) ∙ takes p w t s t> t< in
+    let f : id_write h p (208 + t) ≡ obeying p t w s = ap (λ (x : IdState). id_write x p (208 + t)) (e ∙ ap (λ (v : ℕ). obeying p v w s) z) ∙ takes p w t s t> t< in
     rw f (record { tagging = took z (omega (arith, q.0.0.1, q.0.1, q.1)) refl; kept = refl; here' = λ _. refl })
 ends p t c s h p< t> t< fc fs (fell z n w e) =
     rw (e, deaf p w (208 + t) s p< (omega arith))

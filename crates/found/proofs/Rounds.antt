@@ -10,41 +10,41 @@ use lib.Dec.{eqb, leb, ltb, leb-suc-suc}
 use lib.ListN.{length, get_or}
 use borrow.Author.Tests.{lt-ltb, eq-eqb, ne_eqb, eqb-true, eqb-false, leb-true, leb-false}
 use Rattle.port_rules.specs.declared.IdState.{IdState}
-use Rattle.port_rules.specs.Card.{idWrite}
+use Rattle.port_rules.specs.Card.{id_write}
 use Rattle.port_rules.specs.Port.{Talk}
-use Rattle.port_rules.specs.Search.{put, rounds, allOnes}
+use Rattle.port_rules.specs.Search.{put, rounds, all_ones}
 use Rattle.found.specs.Theorems.{All, Distinct, station, Kept, keeping, Here, Findable, ascending, place}
 use Rattle.port_rules.specs.Leads.{Leads, on, stay}
-use Rattle.found.proofs.Run.{writes, map-map, map-eq, all_map, all_both, all-all}
+use Rattle.found.proofs.Run.{writes, map-map, map-eq, all_map, all_both, all_all}
 use Rattle.found.proofs.Contend.{Some}
-use Rattle.found.proofs.Sort.{others, others-is, others-not, distinct-others, least_first, length-ascending}
-use Rattle.found.proofs.Round.{Readable, readable, Rival, Tagged, judged, round, round-none, idle, now3, ends, After, Ended, was, took, waits}
+use Rattle.found.proofs.Sort.{others, others_is, others-not, distinct-others, least_first, length-ascending}
+use Rattle.found.proofs.Round.{Readable, readable, Rival, Tagged, judged, round, round_none, idle, now3, ends, After, Ended, was, took, waits}
 
 -- the addresses of the untagged cards
 unfoldable pub untagged : List IdState → List ℕ
 untagged [] = []
 untagged (s ∷ cs) = cond (eqb s.tag 0) (station s ∷ untagged cs) (untagged cs)
 
-pub untagged-is : (s : IdState) (cs : List IdState) → s.tag ≡ 0 → untagged (s ∷ cs) ≡ station s ∷ untagged cs
+pub untagged_is : (s : IdState) (cs : List IdState) → s.tag ≡ 0 → untagged (s ∷ cs) ≡ station s ∷ untagged cs
 unfolding untagged
-untagged-is s cs e = rw (eq-eqb s.tag 0 e)
+untagged_is s cs e = rw (eq-eqb s.tag 0 e)
 
-untagged-not : (s : IdState) (cs : List IdState) → Tagged s → untagged (s ∷ cs) ≡ untagged cs
+untagged_not : (s : IdState) (cs : List IdState) → Tagged s → untagged (s ∷ cs) ≡ untagged cs
 unfolding untagged
-untagged-not s cs e = rw (ne_eqb s.tag 0 e)
+untagged_not s cs e = rw (ne_eqb s.tag 0 e)
 
-untagged-none : (cs : List IdState) → All Tagged cs → untagged cs ≡ []
+untagged_none : (cs : List IdState) → All Tagged cs → untagged cs ≡ []
 unfolding untagged
-untagged-none [] a = refl
-untagged-none (s ∷ cs) (t, a) = untagged-not s cs t ∙ untagged-none cs a
+untagged_none [] a = refl
+untagged_none (s ∷ cs) (t, a) = untagged_not s cs t ∙ untagged_none cs a
 
 -- the untagged card with the least station, if there is one
 pub data Least (cs : List IdState) : Type 0 where
   nobody : All Tagged cs → Least cs
   this : (c : IdState) → c.tag ≡ 0 → Some (λ s. s ≡ c) cs → All (λ s. s.tag ≡ 0 → station c ≤ station s) cs → Least cs
 
-all-below : (a b : ℕ) (cs : List IdState) → a ≤ b → All (λ s. s.tag ≡ 0 → b ≤ station s) cs → All (λ s. s.tag ≡ 0 → a ≤ station s) cs
-all-below a b cs h l = all_both {P = λ s. s.tag ≡ 0 → b ≤ station s} {Q = λ s. s.tag ≡ 0 → b ≤ station s} (λ s. s.tag ≡ 0 → a ≤ station s) (λ s q r z. omega (arith, q z)) cs l l
+all_below : (a b : ℕ) (cs : List IdState) → a ≤ b → All (λ s. s.tag ≡ 0 → b ≤ station s) cs → All (λ s. s.tag ≡ 0 → a ≤ station s) cs
+all_below a b cs h l = all_both {P = λ s. s.tag ≡ 0 → b ≤ station s} {Q = λ s. s.tag ≡ 0 → b ≤ station s} (λ s. s.tag ≡ 0 → a ≤ station s) (λ s q r z. omega (arith, q z)) cs l l
 
 all_vacuous : (a : ℕ) (cs : List IdState) → All Tagged cs → All (λ s. s.tag ≡ 0 → a ≤ station s) cs
 all_vacuous a cs l = all_both {P = Tagged} {Q = Tagged} (λ s. s.tag ≡ 0 → a ≤ station s) (λ s q r z. absurd (q z)) cs l l
@@ -53,7 +53,7 @@ lower : (s : IdState) (cs : List IdState) → Least cs → Least (s ∷ cs)
 lower s cs l = first (eqb s.tag 0) refl l
   where
     second : s.tag ≡ 0 → (c : IdState) → c.tag ≡ 0 → Some (λ x. x ≡ c) cs → All (λ x. x.tag ≡ 0 → station c ≤ station x) cs → (b : Bool) → leb (station s) (station c) ≡ b → Least (s ∷ cs)
-    second z c t a h true e = this s z (inl refl) (λ _. omega arith, all-below (station s) (station c) cs (leb-true _ _ e) h)
+    second z c t a h true e = this s z (inl refl) (λ _. omega arith, all_below (station s) (station c) cs (leb-true _ _ e) h)
     second z c t a h false e = this c t (inr a) (λ _. omega (arith, leb-false (station s) (station c) e), h)
 
     first : (b : Bool) → eqb s.tag 0 ≡ b → Least cs → Least (s ∷ cs)
@@ -70,12 +70,12 @@ least (s ∷ cs) = lower s cs (least cs)
 has : (c : IdState) (cs : List IdState) → c.tag ≡ 0 → Some (λ s. s ≡ c) cs → Some (λ a. a ≡ station c) (untagged cs)
 unfolding untagged
 has c [] z a = a
-has c (s ∷ cs) z (inl e) = rw (untagged-is s cs (ap (λ (x : IdState). x.tag) e ∙ z)) (inl (ap station e))
+has c (s ∷ cs) z (inl e) = rw (untagged_is s cs (ap (λ (x : IdState). x.tag) e ∙ z)) (inl (ap station e))
 has c (s ∷ cs) z (inr a) = go (eqb s.tag 0) refl (has c cs z a)
   where
     go : (b : Bool) → eqb s.tag 0 ≡ b → Some (λ x. x ≡ station c) (untagged cs) → Some (λ x. x ≡ station c) (untagged (s ∷ cs))
-    go true e r = rw (untagged-is s cs (eqb-true _ _ e)) (inr r)
-    go false e r = rw (untagged-not s cs (eqb-false _ _ e)) r
+    go true e r = rw (untagged_is s cs (eqb-true _ _ e)) (inr r)
+    go false e r = rw (untagged_not s cs (eqb-false _ _ e)) r
 
 bounds : (m : ℕ) (cs : List IdState) → All (λ s. s.tag ≡ 0 → m ≤ station s) cs → All (λ a. m ≤ a) (untagged cs)
 unfolding untagged
@@ -83,17 +83,17 @@ bounds m [] a = tt
 bounds m (s ∷ cs) (h, a) = go (eqb s.tag 0) refl (bounds m cs a)
   where
     go : (b : Bool) → eqb s.tag 0 ≡ b → All (λ x. m ≤ x) (untagged cs) → All (λ x. m ≤ x) (untagged (s ∷ cs))
-    go true e r = rw (untagged-is s cs (eqb-true _ _ e)) (h (eqb-true _ _ e), r)
-    go false e r = rw (untagged-not s cs (eqb-false _ _ e)) r
+    go true e r = rw (untagged_is s cs (eqb-true _ _ e)) (h (eqb-true _ _ e), r)
+    go false e r = rw (untagged_not s cs (eqb-false _ _ e)) r
 
-findable-in : (p : ℕ) (c : IdState) (cs : List IdState) → All (Findable p) cs → Some (λ s. s ≡ c) cs → Findable p c
-findable-in p c [] a s = absurd s
-findable-in p c (s ∷ cs) (f, a) (inl e) = subst (Findable p) e f
-findable-in p c (s ∷ cs) (f, a) (inr r) = findable-in p c cs a r
+findable_in : (p : ℕ) (c : IdState) (cs : List IdState) → All (Findable p) cs → Some (λ s. s ≡ c) cs → Findable p c
+findable_in p c [] a s = absurd s
+findable_in p c (s ∷ cs) (f, a) (inl e) = subst (Findable p) e f
+findable_in p c (s ∷ cs) (f, a) (inr r) = findable_in p c cs a r
 
 -- the station address, from what is kept
-abbrev stationKept : Kept → ℕ
-stationKept k = (get_or k.words 0 0 * 65536 + get_or k.words 1 0) * 65536 + get_or k.words 2 0
+abbrev station_kept : Kept → ℕ
+station_kept k = (get_or k.words 0 0 * 65536 + get_or k.words 1 0) * 65536 + get_or k.words 2 0
 
 -- after the round one is tagged
 module _ (p t : ℕ) (c : IdState) (t> : 0 < t) where
@@ -103,41 +103,41 @@ module _ (p t : ℕ) (c : IdState) (t> : 0 < t) where
   left f (s ∷ cs) (h, a) = go h.tagging (left f cs a)
     where
       same : station (f s) ≡ station s
-      same = ap stationKept h.kept
+      same = ap station_kept h.kept
 
       go : Ended t (station c) s (f s) → untagged (map f cs) ≡ others (station c) (untagged cs) → untagged (f s ∷ map f cs) ≡ others (station c) (untagged (s ∷ cs))
-      go (was n e) r = untagged-not (f s) (map f cs) (λ z. n (sym e ∙ z)) ∙ r ∙ ap (others (station c)) (sym (untagged-not s cs n))
-      go (took z q e) r = untagged-not (f s) (map f cs) (λ y. absurd (omega arith)) ∙ r ∙ sym (others-is (station c) (station s) (untagged cs) q) ∙ ap (others (station c)) (sym (untagged-is s cs z))
+      go (was n e) r = untagged_not (f s) (map f cs) (λ z. n (sym e ∙ z)) ∙ r ∙ ap (others (station c)) (sym (untagged_not s cs n))
+      go (took z q e) r = untagged_not (f s) (map f cs) (λ y. absurd (omega arith)) ∙ r ∙ sym (others_is (station c) (station s) (untagged cs) q) ∙ ap (others (station c)) (sym (untagged_is s cs z))
       go (waits z n e) r =
-          untagged-is (f s) (map f cs) e ∙ (λ i. same i ∷ r i) ∙ sym (others-not (station c) (station s) (untagged cs) n) ∙ ap (others (station c)) (sym (untagged-is s cs z))
+          untagged_is (f s) (map f cs) e ∙ (λ i. same i ∷ r i) ∙ sym (others-not (station c) (station s) (untagged cs) n) ∙ ap (others (station c)) (sym (untagged_is s cs z))
 
   still : (s e : IdState) → Findable p s → After p t c s e → Findable p e
   still s e f a = record {
     fits0 = subst (λ (k : Kept). get_or k.words 0 0 < 65536) (sym a.kept) f.fits0;
     fits1 = subst (λ (k : Kept). get_or k.words 1 0 < 65536) (sym a.kept) f.fits1;
     fits2 = subst (λ (k : Kept). get_or k.words 2 0 < 65536) (sym a.kept) f.fits2;
-    notOnes = subst (λ (k : Kept). stationKept k ≡ allOnes → ⊥) (sym a.kept) f.notOnes;
+    not_ones = subst (λ (k : Kept). station_kept k ≡ all_ones → ⊥) (sym a.kept) f.not_ones;
     here = a.here';
   }
 
 -- the tag that a card has in the end, if `free` tags are free and xs are found from here on
-abbrev pub newTag : ℕ → List ℕ → IdState → ℕ
-newTag free xs s = cond (eqb s.tag 0) (7 - free + place (station s) xs) s.tag
+abbrev pub new_tag : ℕ → List ℕ → IdState → ℕ
+new_tag free xs s = cond (eqb s.tag 0) (7 - free + place (station s) xs) s.tag
 
 abbrev pub costs : ℕ → ℕ → ℕ
 costs n free = 309 * n + cond (ltb n free) 308 0
 
 pub record Finds {A : Type 0} (p free : ℕ) (k : List ℕ → Talk A) (cs ds : List IdState) : Type 0 where
   pub leads : Leads p (rounds free k) cs (costs (length (untagged cs)) free) (k (ascending (untagged cs))) ds
-  pub tags : map (λ s. s.tag) ds ≡ map (newTag free (ascending (untagged cs))) cs
+  pub tags : map (λ s. s.tag) ds ≡ map (new_tag free (ascending (untagged cs))) cs
   pub same : map keeping ds ≡ map keeping cs
   pub heres : All (Here p) ds
 
-newTag-tagged : (free : ℕ) (xs : List ℕ) (s : IdState) → Tagged s → newTag free xs s ≡ s.tag
-newTag-tagged free xs s n = rw (ne_eqb s.tag 0 n)
+new_tag_tagged : (free : ℕ) (xs : List ℕ) (s : IdState) → Tagged s → new_tag free xs s ≡ s.tag
+new_tag_tagged free xs s n = rw (ne_eqb s.tag 0 n)
 
-newTag-untagged : (free : ℕ) (xs : List ℕ) (s : IdState) → s.tag ≡ 0 → newTag free xs s ≡ 7 - free + place (station s) xs
-newTag-untagged free xs s z = rw (eq-eqb s.tag 0 z)
+new_tag_untagged : (free : ℕ) (xs : List ℕ) (s : IdState) → s.tag ≡ 0 → new_tag free xs s ≡ 7 - free + place (station s) xs
+new_tag_untagged free xs s z = rw (eq-eqb s.tag 0 z)
 
 place_here : (a x : ℕ) (xs : List ℕ) → a ≡ x → place a (x ∷ xs) ≡ 1
 unfolding place
@@ -148,41 +148,41 @@ unfolding place
 place-later a x xs e = rw (ne_eqb a x e)
 
 -- a card's end tag, seen before and after a round
-tag-on : (p free : ℕ) (c : IdState) (ys : List ℕ) (s e : IdState) → suc free ≤ 7 → After p (7 - free) c s e → newTag free ys e ≡ newTag (suc free) (station c ∷ ys) s
+tag-on : (p free : ℕ) (c : IdState) (ys : List ℕ) (s e : IdState) → suc free ≤ 7 → After p (7 - free) c s e → new_tag free ys e ≡ new_tag (suc free) (station c ∷ ys) s
 tag-on p free c ys s e h a = go a.tagging
   where
     same : station e ≡ station s
-    same = ap stationKept a.kept
+    same = ap station_kept a.kept
 
-    go : Ended (7 - free) (station c) s e → newTag free ys e ≡ newTag (suc free) (station c ∷ ys) s
-    go (was n q) = newTag-tagged free ys e (λ z. n (sym q ∙ z)) ∙ q ∙ sym (newTag-tagged (suc free) (station c ∷ ys) s n)
+    go : Ended (7 - free) (station c) s e → new_tag free ys e ≡ new_tag (suc free) (station c ∷ ys) s
+    go (was n q) = new_tag_tagged free ys e (λ z. n (sym q ∙ z)) ∙ q ∙ sym (new_tag_tagged (suc free) (station c ∷ ys) s n)
     go (took z q r) =
         let l : 7 - free ≡ 7 - suc free + 1 = omega arith in
-        newTag-tagged free ys e (λ y. absurd (omega arith)) ∙ r ∙ l ∙ ap (λ (n : ℕ). 7 - suc free + n) (sym (place_here (station s) (station c) ys q)) ∙ sym (newTag-untagged (suc free) (station c ∷ ys) s z)
+        new_tag_tagged free ys e (λ y. absurd (omega arith)) ∙ r ∙ l ∙ ap (λ (n : ℕ). 7 - suc free + n) (sym (place_here (station s) (station c) ys q)) ∙ sym (new_tag_untagged (suc free) (station c ∷ ys) s z)
     go (waits z n r) =
         let l : 7 - free + place (station s) ys ≡ 7 - suc free + suc (place (station s) ys) = omega arith in
-        newTag-untagged free ys e r ∙ ap (λ (x : ℕ). 7 - free + place x ys) same ∙ l ∙ ap (λ (x : ℕ). 7 - suc free + x) (sym (place-later (station s) (station c) ys n)) ∙ sym (newTag-untagged (suc free) (station c ∷ ys) s z)
+        new_tag_untagged free ys e r ∙ ap (λ (x : ℕ). 7 - free + place x ys) same ∙ l ∙ ap (λ (x : ℕ). 7 - suc free + x) (sym (place-later (station s) (station c) ys n)) ∙ sym (new_tag_untagged (suc free) (station c ∷ ys) s z)
 
-tags-stay : (free : ℕ) (xs : List ℕ) (cs : List IdState) → All Tagged cs → map (λ s. s.tag) cs ≡ map (newTag free xs) cs
-tags-stay free xs cs a = map-eq (λ s. s.tag) (newTag free xs) (λ s n. sym (newTag-tagged free xs s n)) cs a
+tags-stay : (free : ℕ) (xs : List ℕ) (cs : List IdState) → All Tagged cs → map (λ s. s.tag) cs ≡ map (new_tag free xs) cs
+tags-stay free xs cs a = map-eq (λ s. s.tag) (new_tag free xs) (λ s n. sym (new_tag_tagged free xs s n)) cs a
 
 -- no untagged card is left
 finds-none : {A : Type 0} (p free : ℕ) (k : List ℕ → Talk A) (cs : List IdState) → All (Findable p) cs → All Tagged cs → (ds : List IdState) × Finds p free k cs ds
 unfolding rounds ascending
 finds-none p zero k cs f a =
-    let e = untagged-none cs a in (
+    let e = untagged_none cs a in (
       cs,
       record {
         leads = subst (λ (xs : List ℕ). Leads p (rounds zero k) cs (costs (length xs) zero) (k (ascending xs)) cs) (sym e) (stay p (k []) cs);
         tags = tags-stay zero (ascending (untagged cs)) cs a;
         same = refl;
-        heres = all-all {P = Findable p} (Here p) (λ s q. q.here) cs f;
+        heres = all_all {P = Findable p} (Here p) (λ s q. q.here) cs f;
       },
     )
 finds-none p (suc free) k cs f a =
-    let e = untagged-none cs a in
+    let e = untagged_none cs a in
     let c : 308 ≡ costs 0 (suc free) = rw (lt-ltb 0 (suc free) (omega arith)) in
-    let none : Leads p (rounds (suc free) k) cs 308 (k []) (map (idle p 2) cs) = round-none p (λ a. cond (eqb a allOnes) (k []) (put (208 + (7 - free)) (rounds free (λ found. k (a ∷ found))))) cs (all-all {P = Findable p} (Readable p) (readable p) cs f) a in (
+    let none : Leads p (rounds (suc free) k) cs 308 (k []) (map (idle p 2) cs) = round_none p (λ a. cond (eqb a all_ones) (k []) (put (208 + (7 - free)) (rounds free (λ found. k (a ∷ found))))) cs (all_all {P = Findable p} (Readable p) (readable p) cs f) a in (
       map (idle p 2) cs,
       record {
         leads = subst (λ (xs : List ℕ). Leads p (rounds (suc free) k) cs (costs (length xs) (suc free)) (k (ascending xs)) (map (idle p 2) cs)) (sym e)
@@ -197,8 +197,8 @@ some-length : (P : ℕ → Type 0) (xs : List ℕ) → Some P xs → 0 < length 
 some-length P [] s = absurd s
 some-length P (x ∷ xs) s = omega arith
 
-pub costs-on : (n free : ℕ) → 308 + (1 + costs n free) ≡ costs (suc n) (suc free)
-costs-on n free = rw (leb-suc-suc (suc n) free) (omega arith)
+pub costs_on : (n free : ℕ) → 308 + (1 + costs n free) ≡ costs (suc n) (suc free)
+costs_on n free = rw (leb-suc-suc (suc n) free) (omega arith)
 
 -- a round with a survivor, and the same search with one tag fewer
 module _ {A : Type 0} (p free : ℕ) (k : List ℕ → Talk A) (cs : List IdState) (c : IdState)
@@ -208,10 +208,10 @@ module _ {A : Type 0} (p free : ℕ) (k : List ℕ → Talk A) (cs : List IdStat
   t = 7 - free
 
   fc : Findable p c
-  fc = findable-in p c cs f some
+  fc = findable_in p c cs f some
 
   ended : IdState → IdState
-  ended s = idWrite (judged p c s) p (208 + t)
+  ended s = id_write (judged p c s) p (208 + t)
 
   abbrev rest : List IdState
   rest = map ended cs
@@ -220,7 +220,7 @@ module _ {A : Type 0} (p free : ℕ) (k : List ℕ → Talk A) (cs : List IdStat
   go_on found = k (station c ∷ found)
 
   abbrev talk : ℕ → Talk A
-  talk a = cond (eqb a allOnes) (k []) (put (208 + (7 - free)) (rounds free (λ found. k (a ∷ found))))
+  talk a = cond (eqb a all_ones) (k []) (put (208 + (7 - free)) (rounds free (λ found. k (a ∷ found))))
 
   after : (s : IdState) → Findable p s → After p t c s (ended s)
   unfolding t ended
@@ -232,9 +232,9 @@ module _ {A : Type 0} (p free : ℕ) (k : List ℕ → Talk A) (cs : List IdStat
   afters : All (λ s. After p t c s (ended s)) cs
   afters = all_both {P = Findable p} {Q = Findable p} (λ s. After p t c s (ended s)) (λ s q r. after s q) cs f f
 
-  still-all : All (Findable p) rest
+  still_all : All (Findable p) rest
   unfolding t
-  still-all = all_map {P = Findable p} (Findable p) ended (λ s q. still p t c (omega arith) s (ended s) q (after s q)) cs f
+  still_all = all_map {P = Findable p} (Findable p) ended (λ s q. still p t c (omega arith) s (ended s) q (after s q)) cs f
 
   others-left : untagged rest ≡ others (station c) (untagged cs)
   unfolding t
@@ -253,7 +253,7 @@ module _ {A : Type 0} (p free : ℕ) (k : List ℕ → Talk A) (cs : List IdStat
   unfolding rounds t ended
   begins =
       let r = round p c p< (readable p c fc) z talk cs rivals some in
-      let e : talk (station c) ≡ put (208 + (7 - free)) (rounds free go_on) = rw (ne_eqb (station c) allOnes fc.notOnes) in
+      let e : talk (station c) ≡ put (208 + (7 - free)) (rounds free go_on) = rw (ne_eqb (station c) all_ones fc.not_ones) in
       let r' = subst (λ (u : Talk A). Leads p (rounds (suc free) k) cs 308 u (map (judged p c) cs)) e r in
       on r' (writes p (208 + t) (rounds free go_on) (judged p c) ended (λ (s : IdState) (q : Rival p c s). refl) cs rivals)
 
@@ -261,12 +261,12 @@ module _ {A : Type 0} (p free : ℕ) (k : List ℕ → Talk A) (cs : List IdStat
   unfolding t
   finds-one ds g = record {
     leads =
-        let n : 308 + 1 + costs (length (untagged rest)) free ≡ costs (length (untagged cs)) (suc free) = omega (arith, costs-on (length (untagged rest)) free) ∙ ap (λ (m : ℕ). costs m (suc free)) one_fewer in
+        let n : 308 + 1 + costs (length (untagged rest)) free ≡ costs (length (untagged cs)) (suc free) = omega (arith, costs_on (length (untagged rest)) free) ∙ ap (λ (m : ℕ). costs m (suc free)) one_fewer in
         subst₂ (λ (m : ℕ) (xs : List ℕ). Leads p (rounds (suc free) k) cs m (k xs) ds) n ordered (on begins g.leads);
     tags =
-        g.tags ∙ map-map (newTag free (ascending (untagged rest))) ended cs
-        ∙ map-eq (λ s. newTag free (ascending (untagged rest)) (ended s)) (newTag (suc free) (station c ∷ ascending (untagged rest))) (λ (s : IdState) (q : Findable p s). tag-on p free c (ascending (untagged rest)) s (ended s) free≤ (after s q)) cs f
-        ∙ ap (λ (xs : List ℕ). map (newTag (suc free) xs) cs) ordered;
+        g.tags ∙ map-map (new_tag free (ascending (untagged rest))) ended cs
+        ∙ map-eq (λ s. new_tag free (ascending (untagged rest)) (ended s)) (new_tag (suc free) (station c ∷ ascending (untagged rest))) (λ (s : IdState) (q : Findable p s). tag-on p free c (ascending (untagged rest)) s (ended s) free≤ (after s q)) cs f
+        ∙ ap (λ (xs : List ℕ). map (new_tag (suc free) xs) cs) ordered;
     same = g.same ∙ map-map keeping ended cs ∙ map-eq (λ s. keeping (ended s)) keeping (λ (s : IdState) (q : Findable p s). (after s q).kept) cs f;
     heres = g.heres;
   }
@@ -286,5 +286,5 @@ finds {A} p (suc free) k cs p< h few d f =
     go again (nobody a) = finds-none p (suc free) k cs f a
     go again (this c z s l) =
         let (ds, g) = again (go_on p free k cs c p< h few d f z s l) (rest p free k cs c p< h few d f z s l)
-        (omega (arith, one_fewer p free k cs c p< h few d f z s l)) (distinct-rest p free k cs c p< h few d f z s l) (still-all p free k cs c p< h few d f z s l) in
+        (omega (arith, one_fewer p free k cs c p< h few d f z s l)) (distinct-rest p free k cs c p< h few d f z s l) (still_all p free k cs c p< h few d f z s l) in
         (ds, finds-one p free k cs c p< h few d f z s l ds g)

@@ -16,9 +16,9 @@ unfoldable pub others : ℕ → List ℕ → List ℕ
 others m [] = []
 others m (x ∷ xs) = cond (eqb x m) (others m xs) (x ∷ others m xs)
 
-pub others-is : (m x : ℕ) (xs : List ℕ) → x ≡ m → others m (x ∷ xs) ≡ others m xs
+pub others_is : (m x : ℕ) (xs : List ℕ) → x ≡ m → others m (x ∷ xs) ≡ others m xs
 unfolding others
-others-is m x xs e = rw (eq-eqb x m e)
+others_is m x xs e = rw (eq-eqb x m e)
 
 pub others-not : (m x : ℕ) (xs : List ℕ) → (x ≡ m → ⊥) → others m (x ∷ xs) ≡ x ∷ others m xs
 unfolding others
@@ -52,10 +52,10 @@ in_order : ascending (7 ∷ 3 ∷ 1 ∷ []) ≡ 1 ∷ 3 ∷ 7 ∷ []
 unfolding ascending insert
 in_order = refl
 
-insert-low : (m : ℕ) (ys : List ℕ) → All (λ y. m ≤ y) ys → insert m ys ≡ m ∷ ys
+insert_low : (m : ℕ) (ys : List ℕ) → All (λ y. m ≤ y) ys → insert m ys ≡ m ∷ ys
 unfolding insert
-insert-low m [] a = refl
-insert-low m (y ∷ ys) (h, a) = rw (le-ltb y m h)
+insert_low m [] a = refl
+insert_low m (y ∷ ys) (h, a) = rw (le-ltb y m h)
 
 all_insert : (P : ℕ → Type 0) (x : ℕ) (ys : List ℕ) → P x → All P ys → All P (insert x ys)
 unfolding insert
@@ -66,10 +66,10 @@ all_insert P x (y ∷ ys) h (q, a) = go (ltb y x) (all_insert P x ys h a)
     go true r = (q, r)
     go false r = (h, (q, a))
 
-all-ascending : (P : ℕ → Type 0) (xs : List ℕ) → All P xs → All P (ascending xs)
+all_ascending : (P : ℕ → Type 0) (xs : List ℕ) → All P xs → All P (ascending xs)
 unfolding ascending
-all-ascending P [] a = tt
-all-ascending P (x ∷ xs) (h, a) = all_insert P x (ascending xs) h (all-ascending P xs a)
+all_ascending P [] a = tt
+all_ascending P (x ∷ xs) (h, a) = all_insert P x (ascending xs) h (all_ascending P xs a)
 
 length-insert : (x : ℕ) (ys : List ℕ) → length (insert x ys) ≡ suc (length ys)
 unfolding insert
@@ -90,15 +90,15 @@ differs x m [] q r e = r
 differs x m (y ∷ ys) (h, q) (inl r) e = h (e ∙ sym r)
 differs x m (y ∷ ys) (h, q) (inr r) e = differs x m ys q r e
 
-insert-past : (x m : ℕ) (ys : List ℕ) → m < x → insert x (m ∷ ys) ≡ m ∷ insert x ys
+insert_past : (x m : ℕ) (ys : List ℕ) → m < x → insert x (m ∷ ys) ≡ m ∷ insert x ys
 unfolding insert
-insert-past x m ys h = rw (lt-ltb m x h)
+insert_past x m ys h = rw (lt-ltb m x h)
 
 pub least_first : (m : ℕ) (xs : List ℕ) → Distinct xs → Some (λ x. x ≡ m) xs → All (λ x. m ≤ x) xs → ascending xs ≡ m ∷ ascending (others m xs)
 unfolding ascending
 least_first m [] d s a = absurd s
 least_first m (x ∷ xs) (h, d) (inl e) (l, a) =
-    rw (others-is m x xs e, e, others-none m xs (rw e at h)) (insert-low m (ascending xs) (all-ascending (λ y. m ≤ y) xs a))
+    rw (others_is m x xs e, e, others-none m xs (rw e at h)) (insert_low m (ascending xs) (all_ascending (λ y. m ≤ y) xs a))
 least_first m (x ∷ xs) (h, d) (inr s) (l, a) =
     let n : x ≡ m → ⊥ = differs x m xs h s in
-    ap (insert x) (least_first m xs d s a) ∙ insert-past x m (ascending (others m xs)) (omega arith) ∙ ap (λ (ys : List ℕ). m ∷ ascending ys) (sym (others-not m x xs n))
+    ap (insert x) (least_first m xs d s a) ∙ insert_past x m (ascending (others m xs)) (omega arith) ∙ ap (λ (ys : List ℕ). m ∷ ascending ys) (sym (others-not m x xs n))

@@ -2,10 +2,10 @@
 -- Assumes nothing.
 use Rattle.std.specs.Prelude.{ℕ, suc, ◌+◌, ◌*◌, ◌<◌, ◌≤◌, ◌≡◌, Bool, true, false, cond, List, [], ◌∷◌, map, eqb, ltb, length, get_or}
 use Rattle.port_rules.specs.declared.IdState.{IdState}
-use Rattle.port_rules.specs.Card.{based, moved, waiting, idFresh}
+use Rattle.port_rules.specs.Card.{based, moved, waiting, id_fresh}
 use Rattle.port_rules.specs.Port.{Access, after, Talk, done, Ran, run}
-use Rattle.port_rules.specs.Search.{put, puts, idBytes, callUp, search, activate, allOnes}
-use Rattle.port_rules.specs.Calls.{allSound}
+use Rattle.port_rules.specs.Search.{put, puts, id_bytes, call_up, search, activate, all_ones}
+use Rattle.port_rules.specs.Calls.{all_sound}
 
 -- a word of the EEPROM, and the station address: words 00h, 01h, 02h as one number
 abbrev pub word_at : ℕ → IdState → ℕ
@@ -45,7 +45,7 @@ pub record Findable (p : ℕ) (s : IdState) : Type 0 where
   pub fits0 : word_at 0 s < 65536
   pub fits1 : word_at 1 s < 65536
   pub fits2 : word_at 2 s < 65536
-  pub notOnes : station s ≡ allOnes → ⊥
+  pub not_ones : station s ≡ all_ones → ⊥
   pub here : Here p s
 
 -- Document 01's premises: distinct addresses, none all ones, at most 7 cards, none in ID_CMD at another port.
@@ -73,12 +73,12 @@ pub record FindsAll (p : ℕ) (before : List IdState) (r : Ran (List ℕ)) : Typ
   pub here : All (Here p) r.cards
   pub cost : length r.accesses ≡ 258 + 309 * length before + cond (ltb (length before) 7) 308 0
 
-abbrev pub The-search-finds-every-card : Type 0
-The-search-finds-every-card = (p : ℕ) (cards : List IdState) → Premises p cards → FindsAll p cards (run p search cards)
+abbrev pub TheSearchFindsEveryCard : Type 0
+TheSearchFindsEveryCard = (p : ℕ) (cards : List IdState) → Premises p cards → FindsAll p cards (run p search cards)
 
 -- For any cards whatever the search ends.
-abbrev pub The-search-ends : Type 0
-The-search-ends = (p : ℕ) (cards : List IdState) → length (run p search cards).accesses ≤ 258 + 309 * 7
+abbrev pub TheSearchEnds : Type 0
+TheSearchEnds = (p : ℕ) (cards : List IdState) → length (run p search cards).accesses ≤ 258 + 309 * 7
 
 -- The bench table's line: 566, 1,184 and 2,421 accesses for 0, 2 and 7 cards.
 pub record Costs (m n : ℕ) : Type 0 where
@@ -86,29 +86,29 @@ pub record Costs (m n : ℕ) : Type 0 where
   pub two : m ≡ 2 → n ≡ 1_184
   pub seven : m ≡ 7 → n ≡ 2_421
 
-abbrev pub The-search-costs : Type 0
-The-search-costs = (p : ℕ) (cards : List IdState) → Premises p cards → Costs (length cards) (length (run p search cards).accesses)
+abbrev pub TheSearchCosts : Type 0
+TheSearchCosts = (p : ℕ) (cards : List IdState) → Premises p cards → Costs (length cards) (length (run p search cards).accesses)
 
 -- An example: fresh cards at port 110h, with addresses that end in these numbers.
-abbrev pub freshCards : List ℕ → List IdState
-freshCards ends = map (λ n. idFresh (0x0200 ∷ 0 ∷ n ∷ [])) ends
+abbrev pub fresh_cards : List ℕ → List IdState
+fresh_cards ends = map (λ n. id_fresh (0x0200 ∷ 0 ∷ n ∷ [])) ends
 
-abbrev pub searchOf : List ℕ → Ran (List ℕ)
-searchOf ends = run 1 search (freshCards ends)
+abbrev pub search_of : List ℕ → Ran (List ℕ)
+search_of ends = run 1 search (fresh_cards ends)
 
-pub record Fresh-cards-are-found : Type 0 where
-  pub none : length (searchOf []).accesses ≡ 566
-  pub two : length (searchOf (1 ∷ 0 ∷ [])).accesses ≡ 1_184
-  pub seven : length (searchOf (7 ∷ 3 ∷ 1 ∷ 5 ∷ 2 ∷ 6 ∷ 4 ∷ [])).accesses ≡ 2_421
-  pub found : (searchOf (1 ∷ 0 ∷ [])).answer ≡ 0x0200_0000_0000 ∷ 0x0200_0000_0001 ∷ []
-  pub tags : map (λ s. s.tag) (searchOf (1 ∷ 0 ∷ [])).cards ≡ 2 ∷ 1 ∷ []
+pub record FreshCardsAreFound : Type 0 where
+  pub none : length (search_of []).accesses ≡ 566
+  pub two : length (search_of (1 ∷ 0 ∷ [])).accesses ≡ 1_184
+  pub seven : length (search_of (7 ∷ 3 ∷ 1 ∷ 5 ∷ 2 ∷ 6 ∷ 4 ∷ [])).accesses ≡ 2_421
+  pub found : (search_of (1 ∷ 0 ∷ [])).answer ≡ 0x0200_0000_0000 ∷ 0x0200_0000_0001 ∷ []
+  pub tags : map (λ s. s.tag) (search_of (1 ∷ 0 ∷ [])).cards ≡ 2 ∷ 1 ∷ []
 
 -- What activation makes of a card: the one with the tag is active at the base (31: preconfigured), and each waits for the next sequence.
 abbrev pub configured : ℕ → ℕ → ℕ
 configured base address = cond (eqb base 31) address (based address base)
 
-abbrev pub activatedBy : ℕ → ℕ → IdState → IdState
-activatedBy tag base s = record {
+abbrev pub activated_by : ℕ → ℕ → IdState → IdState
+activated_by tag base s = record {
   command = false;
   port = 16;
   at = 0;
@@ -120,38 +120,38 @@ activatedBy tag base s = record {
   words = s.words;
 }
 
-abbrev pub Activation-activates-the-tagged-card : Type 0
-Activation-activates-the-tagged-card =
+abbrev pub ActivationActivatesTheTaggedCard : Type 0
+ActivationActivatesTheTaggedCard =
     (p tag base : ℕ) (cards : List IdState) → p < 16 → tag < 8 → base < 32 → All (Here p) cards →
-    ((run p (activate tag base) cards).cards ≡ map (activatedBy tag base) cards) × (length (run p (activate tag base) cards).accesses ≡ 259)
+    ((run p (activate tag base) cards).cards ≡ map (activated_by tag base) cards) × (length (run p (activate tag base) cards).accesses ≡ 259)
 
 -- After a search, activation of tag k activates the k-th card found, alone, at that base.
 pub record ActivatesOne (k base : ℕ) (before : List IdState) (found : List ℕ) (cards : List IdState) : Type 0 where
   pub active : map (λ s. s.active) cards ≡ map (λ s. cond (eqb (place (station s) found) k) true s.active) before
   pub address : map (λ s. s.address) cards ≡ map (λ s. cond (eqb (place (station s) found) k) (configured base s.address) s.address) before
 
-abbrev pub A-found-card-is-activated-alone : Type 0
-A-found-card-is-activated-alone =
+abbrev pub AFoundCardIsActivatedAlone : Type 0
+AFoundCardIsActivatedAlone =
     (p k base : ℕ) (cards : List IdState) → Premises p cards → k < 8 → base < 32 →
     ActivatesOne k base cards (run p search cards).answer (run p (activate k base) (run p search cards).cards).cards
 
 -- One zero in place of two: a card in ID_CMD takes it as a command, forgets its port and misses the sequence.
-abbrev pub oneZero : Talk (List ℕ)
-oneZero = put 0 (puts (idBytes 0 255) (done []))
+abbrev pub one_zero : Talk (List ℕ)
+one_zero = put 0 (puts (id_bytes 0 255) (done []))
 
-abbrev pub twoZeros : Talk (List ℕ)
-twoZeros = callUp (done [])
+abbrev pub two_zeros : Talk (List ℕ)
+two_zeros = call_up (done [])
 
 -- a card in ID_CMD at port 110h
 abbrev pub obedient : IdState
-obedient = moved true 1 0 (idFresh [])
+obedient = moved true 1 0 (id_fresh [])
 
-pub record One-zero-misses-a-card : Type 0 where
-  pub one : (p : ℕ) (s : IdState) → p < 16 → s.command ≡ true → s.port ≡ p → (run p oneZero (s ∷ [])).cards ≡ waiting s ∷ []
-  pub two : (p : ℕ) (s : IdState) → Here p s → map (λ c. c.command) (run p twoZeros (s ∷ [])).cards ≡ true ∷ []
-  pub example : (run 1 oneZero (obedient ∷ [])).cards ≡ idFresh [] ∷ []
+pub record OneZeroMissesACard : Type 0 where
+  pub one : (p : ℕ) (s : IdState) → p < 16 → s.command ≡ true → s.port ≡ p → (run p one_zero (s ∷ [])).cards ≡ waiting s ∷ []
+  pub two : (p : ℕ) (s : IdState) → Here p s → map (λ c. c.command) (run p two_zeros (s ∷ [])).cards ≡ true ∷ []
+  pub example : (run 1 one_zero (obedient ∷ [])).cards ≡ id_fresh [] ∷ []
 
 -- Every access, and so every talk, keeps the soundness of all cards.
-pub record Every-access-keeps-soundness : Type 0 where
-  pub accesses : (p : ℕ) (a : Access) (cards : List IdState) → p < 16 → allSound cards ≡ true → allSound (after p a cards) ≡ true
-  pub talks : (p : ℕ) (t : Talk (List ℕ)) (cards : List IdState) → p < 16 → allSound cards ≡ true → allSound (run p t cards).cards ≡ true
+pub record EveryAccessKeepsSoundness : Type 0 where
+  pub accesses : (p : ℕ) (a : Access) (cards : List IdState) → p < 16 → all_sound cards ≡ true → all_sound (after p a cards) ≡ true
+  pub talks : (p : ℕ) (t : Talk (List ℕ)) (cards : List IdState) → p < 16 → all_sound cards ≡ true → all_sound (run p t cards).cards ≡ true

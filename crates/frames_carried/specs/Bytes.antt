@@ -9,35 +9,35 @@ octets [] = true
 octets (v ∷ vs) = ltb v 256 && octets vs
 
 -- every word has 16 bits
-unfoldable pub dirWords : List ℕ → Bool
-dirWords [] = true
-dirWords (w ∷ ws) = ltb w 65536 && dirWords ws
+unfoldable pub dir_words : List ℕ → Bool
+dir_words [] = true
+dir_words (w ∷ ws) = ltb w 65536 && dir_words ws
 
 -- a code has three bits
-unfoldable pub codeFits : State → Bool
-codeFits (coming o) = true
-codeFits whole = true
-codeFits (damaged k) = ltb k 8
+unfoldable pub code_fits : State → Bool
+code_fits (coming o) = true
+code_fits whole = true
+code_fits (damaged k) = ltb k 8
 
 -- the bytes and the codes of stored frames are such
 unfoldable pub holdable : List Frame → Bool
 holdable [] = true
-holdable (f ∷ fs) = octets f.bytes && (codeFits f.state && holdable fs)
+holdable (f ∷ fs) = octets f.bytes && (code_fits f.state && holdable fs)
 
 -- the wire brings bytes
-unfoldable pub octetsOf : Event → Bool
-octetsOf (Start first eight) = octets first
-octetsOf (Byte v) = ltb v 256
-octetsOf (End check alignment) = true
-octetsOf Sent = true
-octetsOf Collided = true
-octetsOf (Open w₀ w₁ w₂) = true
-octetsOf (Send packet) = true
-octetsOf (Service budget s) = true
+unfoldable pub octets_of : Event → Bool
+octets_of (Start first eight) = octets first
+octets_of (Byte v) = ltb v 256
+octets_of (End check alignment) = true
+octets_of Sent = true
+octets_of Collided = true
+octets_of (Open w₀ w₁ w₂) = true
+octets_of (Send packet) = true
+octets_of (Service budget s) = true
 
-unfoldable pub wireOctets : List Event → Bool
-wireOctets [] = true
-wireOctets (e ∷ es) = octetsOf e && wireOctets es
+unfoldable pub wire_octets : List Event → Bool
+wire_octets [] = true
+wire_octets (e ∷ es) = octets_of e && wire_octets es
 
 -- no start and no end is among these events: bytes of a frame, calls and outcomes
 unfoldable pub between : List Event → Bool
@@ -52,13 +52,13 @@ between (Send packet ∷ es) = between es
 between (Service budget s ∷ es) = between es
 
 -- their bytes
-unfoldable pub bytesIn : List Event → List ℕ
-bytesIn [] = []
-bytesIn (Start first eight ∷ es) = bytesIn es
-bytesIn (Byte v ∷ es) = v ∷ bytesIn es
-bytesIn (End check alignment ∷ es) = bytesIn es
-bytesIn (Sent ∷ es) = bytesIn es
-bytesIn (Collided ∷ es) = bytesIn es
-bytesIn (Open w₀ w₁ w₂ ∷ es) = bytesIn es
-bytesIn (Send packet ∷ es) = bytesIn es
-bytesIn (Service budget s ∷ es) = bytesIn es
+unfoldable pub bytes_in : List Event → List ℕ
+bytes_in [] = []
+bytes_in (Start first eight ∷ es) = bytes_in es
+bytes_in (Byte v ∷ es) = v ∷ bytes_in es
+bytes_in (End check alignment ∷ es) = bytes_in es
+bytes_in (Sent ∷ es) = bytes_in es
+bytes_in (Collided ∷ es) = bytes_in es
+bytes_in (Open w₀ w₁ w₂ ∷ es) = bytes_in es
+bytes_in (Send packet ∷ es) = bytes_in es
+bytes_in (Service budget s ∷ es) = bytes_in es

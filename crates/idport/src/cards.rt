@@ -1,6 +1,6 @@
 // Whether the cards on one ID port are sound, and the tests of the calls' arguments.
 ghost use Rattle.std.specs.Prelude.{◌≡◌, min, take};
-ghost use Rattle.port_rules.specs.Gathered.{allSound, isPort, naming, digitOf};
+ghost use Rattle.port_rules.specs.Gathered.{all_sound, is_port, naming, digit_of};
 
 use crate::id_sound;
 use port_rules::IdState;
@@ -17,7 +17,7 @@ fn at_most_eight(n: usize) -> usize
 
 // Whether each of the first `count` cards is sound.
 pub fn all_sound(cards: [IdState; 8], count: usize) -> bool
-    ensures { result ≡ allSound (take count cards) }
+    ensures { result ≡ all_sound (take count cards) }
 {
     let n = at_most_eight(count);
     let mut sound = true;
@@ -33,7 +33,7 @@ pub fn all_sound(cards: [IdState; 8], count: usize) -> bool
 
 // Whether the port is one of 100h, 110h, .. 1F0h.
 pub fn is_port(port: u16) -> bool
-    ensures { result ≡ isPort port }
+    ensures { result ≡ is_port port }
 {
     (port % 16 == 0) & (port / 256 == 1)
 }
@@ -47,7 +47,7 @@ pub fn names(tag: u8, base: u8) -> bool
 
 // x of port 1x0h.
 pub fn digit(port: u16) -> u8
-    ensures { result ≡ digitOf port }
+    ensures { result ≡ digit_of port }
 {
     (port / 16 % 16) as u8
 }

@@ -1,12 +1,12 @@
 // ID_CMD: the commands 00 to FF, in the manual's order.
 ghost use Rattle.std.specs.Prelude.{◌≡◌, cond, ◌-◌, ◌≤◌, eqb};
-ghost use Rattle.port_rules.specs.Card.{waiting as waitingOf, activated, based, idCommand};
+ghost use Rattle.port_rules.specs.Card.{waiting as waiting_of, activated, based, id_command};
 
 use port_rules::IdState;
 
 // To ID_WAIT, which forgets the port.
 pub fn waiting(mut s: IdState) -> IdState
-    ensures { result ≡ waitingOf s }
+    ensures { result ≡ waiting_of s }
 {
     s.command = false;
     s.port = 16;
@@ -17,7 +17,7 @@ pub fn waiting(mut s: IdState) -> IdState
 // E0 to FE activate at that base, FF at the preconfigured one; then to ID_WAIT.
 fn activate(s: IdState, byte: u8) -> IdState
     requires { 0xE0 ≤ byte }
-    ensures { result ≡ cond (eqb byte 0xFF) (activated s.address (waitingOf s)) (activated (based s.address (byte - 0xE0)) (waitingOf s)) }
+    ensures { result ≡ cond (eqb byte 0xFF) (activated s.address (waiting_of s)) (activated (based s.address (byte - 0xE0)) (waiting_of s)) }
 {
     let mut next = waiting(s);
     next.active = true;
@@ -31,7 +31,7 @@ fn activate(s: IdState, byte: u8) -> IdState
 
 // A byte written to the card's port in ID_CMD.
 pub fn obey(mut s: IdState, byte: u8) -> IdState
-    ensures { result ≡ idCommand s byte }
+    ensures { result ≡ id_command s byte }
 {
     if byte < 0x80 {
         return waiting(s);

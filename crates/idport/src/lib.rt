@@ -1,7 +1,7 @@
 // One card on the ID port: document 01, "Finding cards on one ID port", and the manual's ISA Activation chapter.
-ghost use Rattle.port_rules.specs.Sequence.{The-sequence};
-ghost use Rattle.port_rules.specs.Sound.{Every-step-keeps-soundness};
-ghost use Rattle.port_rules.specs.Contracts as contract;
+ghost use Rattle.port_rules.specs.Sequence.{TheSequence};
+ghost use Rattle.port_rules.specs.Sound.{EveryStepKeepsSoundness};
+ghost use Rattle.port_rules.specs.PortContracts as contract;
 
 use port_rules::IdState;
 
@@ -18,7 +18,7 @@ pub use sequence::byte_at;
 
 // A card after power-on, with these words in its EEPROM.
 pub fn fresh(words: [u16; 64]) -> IdState
-    ensures { contract.fresh words result }
+    ensures { contract.Fresh words result }
 {
     let address = words[8];
     IdState {
@@ -36,7 +36,7 @@ pub fn fresh(words: [u16; 64]) -> IdState
 
 // Whether the state is one that a card can be in.
 pub fn id_sound(s: IdState) -> bool
-    ensures { contract.id-sound s result }
+    ensures { contract.IdSound s result }
 {
     (s.port <= 16)
         & (s.at <= 254)
@@ -47,7 +47,7 @@ pub fn id_sound(s: IdState) -> bool
 
 // A byte written to port 1x0h, where `port` is x.
 pub fn id_write(s: IdState, port: u8, byte: u8) -> IdState
-    ensures { contract.id-write s port byte result }
+    ensures { contract.IdWrite s port byte result }
 {
     let own = s.port;
     if s.command {
@@ -61,7 +61,7 @@ pub fn id_write(s: IdState, port: u8, byte: u8) -> IdState
 
 // The bit that the card drives when the port is read; a card that drives none leaves the bus its 1.
 pub fn id_bit(s: IdState, port: u8) -> u8
-    ensures { contract.id-bit s port result }
+    ensures { contract.IdBit s port result }
 {
     if contend::drives(s, port) {
         return (s.shift >> 15) as u8;
@@ -71,7 +71,7 @@ pub fn id_bit(s: IdState, port: u8) -> u8
 
 // The card after a read of the port that gave `bus`.
 pub fn id_after_read(mut s: IdState, port: u8, bus: u8) -> IdState
-    ensures { contract.id-after-read s port bus result }
+    ensures { contract.IdAfterRead s port bus result }
 {
     if contend::drives(s, port) {
         let mine = id_bit(s, port);
@@ -86,10 +86,10 @@ pub fn id_after_read(mut s: IdState, port: u8, bus: u8) -> IdState
 
 // The table starts at FFh and ends at 98h, and a zero never occurs in it.
 pub fn the_sequence()
-    ensures { The-sequence }
+    ensures { TheSequence }
 {}
 
 // A card is sound after power-on, and every write and read keeps it so.
 pub fn every_step_keeps_soundness()
-    ensures { Every-step-keeps-soundness }
+    ensures { EveryStepKeepsSoundness }
 {}

@@ -1,6 +1,6 @@
 // The ID sequence, kept as a table.
 ghost use Rattle.std.specs.Prelude.{◌≡◌, ◌<◌};
-ghost use Rattle.port_rules.specs.Sequence.{idByte};
+ghost use Rattle.port_rules.specs.Sequence.{id_byte};
 
 // It starts at FFh; the next is the last shifted left, with CFh exclusive-or'd if a one fell out.
 const SEQUENCE: [u8; 255] = [
@@ -25,7 +25,7 @@ const SEQUENCE: [u8; 255] = [
 // The byte at place `i`, counted from 0.
 pub fn byte_at(i: usize) -> u8
     requires { i < 255 }
-    ensures { result ≡ idByte i }
+    ensures { result ≡ id_byte i }
 {
     SEQUENCE[i]
 }

@@ -1,6 +1,6 @@
 // ID_WAIT: the card watches the writes to every port 1x0h.
 ghost use Rattle.std.specs.Prelude.{◌≡◌};
-ghost use Rattle.port_rules.specs.Card.{expected, idWait};
+ghost use Rattle.port_rules.specs.Card.{expected, id_wait};
 
 use crate::sequence;
 use port_rules::IdState;
@@ -18,7 +18,7 @@ fn is_expected(at: u8, byte: u8) -> bool
 
 // A byte written in ID_WAIT: a zero chooses the port; at that port the card follows the sequence, and its last byte leads to ID_CMD.
 pub fn listen(mut s: IdState, port: u8, byte: u8) -> IdState
-    ensures { result ≡ idWait s port byte }
+    ensures { result ≡ id_wait s port byte }
 {
     if byte == 0 {
         s.port = port;

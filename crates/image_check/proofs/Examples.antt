@@ -9,7 +9,7 @@ use Rattle.refusal.specs.Number.{number_of}
 use Rattle.refusal.specs.declared.Refusal.TheVariants.{LengthOutside, MakerWrong, ChecksumWrong, SecondaryWrong}
 use Rattle.image_rules.specs.declared.Checked.{Checked}
 use Rattle.image_rules.specs.declared.Checked.TheVariants.{Sound, Refused}
-use Rattle.image_rules.specs.Image.{place_of, word_at, bothBytes, xorOf, span, checksumOf, secondaryOf, checkOf}
+use Rattle.image_rules.specs.Image.{place_of, word_at, both_bytes, xor_of, span, checksum_of, secondary_of, check_of}
 
 -- Word offset 0Fh stands at byte place 1Eh.
 checksum-place : place_of 0x0F ≡ 0x1E
@@ -36,41 +36,41 @@ card =
 abbrev with : ℕ → ℕ → List ℕ
 with w value = bytes_of (set card w value)
 
-sound : checkOf (bytes_of card) ≡ Sound 0x0020 0xAFC4 0x12E5
-unfolding checkOf word_at checksumOf secondaryOf xorOf bothBytes
+sound : check_of (bytes_of card) ≡ Sound 0x0020 0xAFC4 0x12E5
+unfolding check_of word_at checksum_of secondary_of xor_of both_bytes
 sound = refl
 
 -- 2: image not 128 bytes.
-none : checkOf [] ≡ Refused LengthOutside
-unfolding checkOf
+none : check_of [] ≡ Refused LengthOutside
+unfolding check_of
 none = refl
 
-one-short : checkOf (take 127 (bytes_of card)) ≡ Refused LengthOutside
-unfolding checkOf
+one-short : check_of (take 127 (bytes_of card)) ≡ Refused LengthOutside
+unfolding check_of
 one-short = refl
 
-one-long : checkOf (bytes_of card ++ (0 ∷ [])) ≡ Refused LengthOutside
-unfolding checkOf
+one-long : check_of (bytes_of card ++ (0 ∷ [])) ≡ Refused LengthOutside
+unfolding check_of
 one-long = refl
 
 -- 8: word 07h is not 6D50h.
-zeros : checkOf (replicate 128 0) ≡ Refused MakerWrong
-unfolding checkOf word_at
+zeros : check_of (replicate 128 0) ≡ Refused MakerWrong
+unfolding check_of word_at
 zeros = refl
 
-maker-turned : checkOf (with 0x07 0x506D) ≡ Refused MakerWrong
-unfolding checkOf word_at
-maker-turned = refl
+maker_turned : check_of (with 0x07 0x506D) ≡ Refused MakerWrong
+unfolding check_of word_at
+maker_turned = refl
 
 -- 9: word 0Fh is not the checksum.
-checksum-wrong : checkOf (with 0x0F 0x3C8C) ≡ Refused ChecksumWrong
-unfolding checkOf word_at checksumOf xorOf bothBytes
-checksum-wrong = refl
+checksum_wrong : check_of (with 0x0F 0x3C8C) ≡ Refused ChecksumWrong
+unfolding check_of word_at checksum_of xor_of both_bytes
+checksum_wrong = refl
 
 -- 10: word 17h is not the secondary checksums.
-secondary-wrong : checkOf (with 0x17 0x1131) ≡ Refused SecondaryWrong
-unfolding checkOf word_at checksumOf secondaryOf xorOf bothBytes
-secondary-wrong = refl
+secondary_wrong : check_of (with 0x17 0x1131) ≡ Refused SecondaryWrong
+unfolding check_of word_at checksum_of secondary_of xor_of both_bytes
+secondary_wrong = refl
 
 -- The paper's number of a refusal, and 0 for a sound image.
 abbrev outcome : Checked → ℕ
@@ -82,12 +82,12 @@ outcome (Refused why) = number_of why
 -- Words 07h, 0Fh and 17h are each held to one value, so no change of theirs passes. In every other word a change
 -- of one byte is noticed (`noticed`), and a change of the same bits in both bytes is not, as an exchange
 -- of the two; nor is a change of the same bits in two words of one list: in the exclusive-or they cancel.
-one-bit-changed : map (λ (w : ℕ). outcome (checkOf (with w (bit_xor 1 (get_or card w 0))))) (span 0x00 0x3F)
+one_bit_changed : map (λ (w : ℕ). outcome (check_of (with w (bit_xor 1 (get_or card w 0))))) (span 0x00 0x3F)
     ≡ replicate 7 9 ++ ((8 ∷ []) ++ (replicate 8 9 ++ (replicate 8 10 ++ (replicate 8 0 ++ replicate 32 10))))
-unfolding checkOf word_at checksumOf secondaryOf xorOf bothBytes
-one-bit-changed = refl
+unfolding check_of word_at checksum_of secondary_of xor_of both_bytes
+one_bit_changed = refl
 
 -- The two bytes of word 00h exchanged: unnoticed.
-bytes-exchanged : checkOf (with 0x00 0x2000) ≡ Sound 0x2000 0xAFC4 0x12E5
-unfolding checkOf word_at checksumOf secondaryOf xorOf bothBytes
-bytes-exchanged = refl
+bytes_exchanged : check_of (with 0x00 0x2000) ≡ Sound 0x2000 0xAFC4 0x12E5
+unfolding check_of word_at checksum_of secondary_of xor_of both_bytes
+bytes_exchanged = refl

@@ -6,11 +6,11 @@
 use Rattle.std.specs.Prelude.{ℕ, ◌/◌, ◌<◌, ◌≡◌, Bool, true, false, List, set}
 use Rattle.image_rules.specs.declared.Checked.{Checked}
 use Rattle.image_rules.specs.declared.Checked.TheVariants.{Sound, Refused}
-use Rattle.image_rules.specs.Image.{byte_at, span, isAmong, checkOf}
+use Rattle.image_rules.specs.Image.{byte_at, span, is_among, check_of}
 
-abbrev pub isSound : Checked → Bool
-isSound (Sound node0 node1 node2) = true
-isSound (Refused why) = false
+abbrev pub is_sound : Checked → Bool
+is_sound (Sound node0 node1 node2) = true
+is_sound (Refused why) = false
 
 -- Every element is a byte.
 abbrev pub Bytes : List ℕ → Type 0
@@ -20,6 +20,6 @@ Bytes image = (place : ℕ) → byte_at image place < 256
 abbrev pub OneByteNoticed : Type 0
 OneByteNoticed =
     (image : List ℕ) (place value : ℕ) → Bytes image → value < 256
-    → place < 128 → isAmong (place / 2) (span 0x18 0x1F) ≡ false
-    → isSound (checkOf image) ≡ true → isSound (checkOf (set image place value)) ≡ true
+    → place < 128 → is_among (place / 2) (span 0x18 0x1F) ≡ false
+    → is_sound (check_of image) ≡ true → is_sound (check_of (set image place value)) ≡ true
     → byte_at image place ≡ value

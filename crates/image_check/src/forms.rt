@@ -1,13 +1,13 @@
 // The two forms of the line.
 ghost use Rattle.std.specs.Prelude.{◌≡◌, ◌+◌, ◌≤◌};
-ghost use Rattle.image_rules.specs.Line.{Says, okLine, refusedLine};
-ghost use Rattle.image_rules.specs.Put.{withHex};
+ghost use Rattle.image_rules.specs.Line.{Says, ok_line, refused_line};
+ghost use Rattle.image_rules.specs.Put.{with_hex};
 
 use image_rules::Text;
 
 // `image ok ` and the three words.
 pub fn ok_line(node0: u16, node1: u16, node2: u16) -> Text
-    ensures { Says (okLine node0 node1 node2) result.len result.bytes }
+    ensures { Says (ok_line node0 node1 node2) result.len result.bytes }
 {
     let blank = *b"image ok ............\n";
     let one = with_hex(blank, 9, node0);
@@ -21,7 +21,7 @@ pub fn ok_line(node0: u16, node1: u16, node2: u16) -> Text
 
 // `image refused ` and a number below 100.
 pub fn refused_line(n: u8) -> Text
-    ensures { Says (refusedLine n) result.len result.bytes }
+    ensures { Says (refused_line n) result.len result.bytes }
 {
     if n < 10 {
         let mut short = *b"image refused .\n......";
@@ -43,12 +43,12 @@ pub fn refused_line(n: u8) -> Text
 // The text with the four hex digits of a word put in from a place on.
 fn with_hex(text: [u8; 22], at: usize, word: u16) -> [u8; 22]
     requires { at + 4 ≤ 22 }
-    ensures { result ≡ withHex text at word }
+    ensures { result ≡ with_hex text at word }
 {
     let mut bytes = text;
-    bytes[at] = hex::digit(word / 4096);
-    bytes[at + 1] = hex::digit(word / 256 % 16);
-    bytes[at + 2] = hex::digit(word / 16 % 16);
-    bytes[at + 3] = hex::digit(word % 16);
+    bytes[at] = hex_text::digit(word / 4096);
+    bytes[at + 1] = hex_text::digit(word / 256 % 16);
+    bytes[at + 2] = hex_text::digit(word / 16 % 16);
+    bytes[at + 3] = hex_text::digit(word % 16);
     bytes
 }

@@ -6,7 +6,7 @@ pub mod text; // text.rt: the line that is printed
 
 ghost use Rattle.std.specs.Prelude.{◌≡◌, ◌/◌, ◌%◌};
 ghost use Rattle.std.specs.Int.Bits.{bit_xor};
-ghost use Rattle.image_rules.specs.Contracts as contract;
+ghost use Rattle.image_rules.specs.ImageContracts as contract;
 
 use bits::pair;
 use image_rules::{BytePlace, Checked, WordOffset};
@@ -19,14 +19,14 @@ const MAKER: u16 = 0x6d50;
 // The one way from word offsets to byte places: the place of the word's low byte.
 // An offset has six bits, as an EEPROM command's address has.
 pub fn place_of(w: WordOffset) -> BytePlace
-    ensures { contract.place-of w result }
+    ensures { contract.PlaceOf w result }
 {
     BytePlace(2 * (w.0 % 64))
 }
 
 // The byte at a place; 0 past the image's end.
 pub fn byte_at(image: &[u8], at: BytePlace) -> u8
-    ensures { contract.byte-at image.now at result }
+    ensures { contract.ByteAt image.now at result }
 {
     let place = at.0;
     if place < image.len() {
@@ -37,7 +37,7 @@ pub fn byte_at(image: &[u8], at: BytePlace) -> u8
 
 // The word at an offset.
 pub fn word_at(image: &[u8], w: WordOffset) -> u16
-    ensures { contract.word-at image.now w result }
+    ensures { contract.WordAt image.now w result }
 {
     let low = place_of(w).0;
     pair(
@@ -49,7 +49,7 @@ pub fn word_at(image: &[u8], w: WordOffset) -> u16
 // What word 0Fh must be. Go down the printed listing from word 00h to word 0Eh and take each word once, whole: words 08h,
 // 09h and 0Dh into `low`, all the others into `high`. At the end `high` is folded to the high byte, `low` to the low byte.
 pub fn checksum(image: &[u8]) -> u16
-    ensures { contract.checksum image.now result }
+    ensures { contract.Checksum image.now result }
 {
     let mut high: u16 = 0;
     let mut low: u16 = 0;
@@ -66,7 +66,7 @@ pub fn checksum(image: &[u8]) -> u16
 // What word 17h must be, in the same way: vital data makes its high byte, configurable data its low byte. Words 10h to 12h
 // are vital, 13h to 16h configurable; then 17h to 1Fh are passed over, and words 20h to 3Fh are vital again.
 pub fn secondary(image: &[u8]) -> u16
-    ensures { contract.secondary image.now result }
+    ensures { contract.Secondary image.now result }
 {
     let mut vital: u16 = 0;
     let mut configurable: u16 = 0;
@@ -92,7 +92,7 @@ fn folded(word: u16) -> u8
 
 // Checks an image of any length. The first of 2, 8, 9 and 10 that is due is the answer.
 pub fn check(image: &[u8]) -> Checked
-    ensures { contract.check image.now result }
+    ensures { contract.Check image.now result }
 {
     if image.len() != 128 {
         return Checked::Refused(Refusal::LengthOutside);

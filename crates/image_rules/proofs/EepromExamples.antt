@@ -6,7 +6,7 @@ use Prim.Native.Nat.{ℕ, ◌/◌, ◌%◌}
 use lib.ListN.{set, take, replicate}
 use Rattle.refusal.specs.declared.Refusal.TheVariants.{LengthOutside, MakerWrong, ChecksumWrong, SecondaryWrong}
 use Rattle.image_rules.specs.declared.Checked.TheVariants.{Sound, Refused}
-use Rattle.image_rules.specs.Image.{place_of, byte_at, word_at, bothBytes, xorOf, checksumOf, secondaryOf, checkOf}
+use Rattle.image_rules.specs.Image.{place_of, byte_at, word_at, both_bytes, xor_of, checksum_of, secondary_of, check_of}
 
 -- Word offset 0Fh stands at byte place 1Eh.
 checksum-place : place_of 0x0F ≡ 0x1E
@@ -17,9 +17,9 @@ past_the_end : byte_at (replicate 128 7) 128 ≡ 0
 past_the_end = refl
 
 -- Word 07h of every image: 50h, then 6Dh.
-low-byte-first : word_at (0x50 ∷ 0x6D ∷ []) 0x00 ≡ 0x6D50
+low_byte_first : word_at (0x50 ∷ 0x6D ∷ []) 0x00 ≡ 0x6D50
 unfolding word_at
-low-byte-first = refl
+low_byte_first = refl
 
 -- Words as bytes, low byte first.
 abbrev bytes_of : List ℕ → List ℕ
@@ -39,40 +39,40 @@ abbrev with : ℕ → ℕ → List ℕ
 with checksum secondary = bytes_of (set (set words 0x0F checksum) 0x17 secondary)
 
 -- High byte: words 00h-0Eh except 08h, 09h, 0Dh; low byte: those three.
-checksum : checksumOf (bytes_of words) ≡ 0x813C
-unfolding checksumOf xorOf bothBytes
+checksum : checksum_of (bytes_of words) ≡ 0x813C
+unfolding checksum_of xor_of both_bytes
 checksum = refl
 
 -- High byte: words 10h-12h and 20h-3Fh; low byte: words 13h-16h.
-secondary : secondaryOf (bytes_of words) ≡ 0xDA11
-unfolding secondaryOf xorOf bothBytes
+secondary : secondary_of (bytes_of words) ≡ 0xDA11
+unfolding secondary_of xor_of both_bytes
 secondary = refl
 
-sound : checkOf (bytes_of words) ≡ Sound 0x0020 0xAFC4 0x12E5
-unfolding checkOf word_at checksumOf secondaryOf xorOf bothBytes
+sound : check_of (bytes_of words) ≡ Sound 0x0020 0xAFC4 0x12E5
+unfolding check_of word_at checksum_of secondary_of xor_of both_bytes
 sound = refl
 
 -- 2: image not 128 bytes.
-one-short : checkOf (take 127 (bytes_of words)) ≡ Refused LengthOutside
-unfolding checkOf word_at checksumOf secondaryOf xorOf bothBytes
+one-short : check_of (take 127 (bytes_of words)) ≡ Refused LengthOutside
+unfolding check_of word_at checksum_of secondary_of xor_of both_bytes
 one-short = refl
 
 -- 8: word 07h is not 6D50h.
-zeros : checkOf (replicate 128 0) ≡ Refused MakerWrong
-unfolding checkOf word_at
+zeros : check_of (replicate 128 0) ≡ Refused MakerWrong
+unfolding check_of word_at
 zeros = refl
 
 -- 9: word 0Fh is not the checksum.
-bytes-exchanged : checkOf (with 0x3C81 0xDA11) ≡ Refused ChecksumWrong
-unfolding checkOf word_at checksumOf secondaryOf xorOf bothBytes
-bytes-exchanged = refl
+bytes_exchanged : check_of (with 0x3C81 0xDA11) ≡ Refused ChecksumWrong
+unfolding check_of word_at checksum_of secondary_of xor_of both_bytes
+bytes_exchanged = refl
 
 -- 10: word 17h is not the secondary checksums.
-secondary-wrong : checkOf (with 0x813C 0x11DA) ≡ Refused SecondaryWrong
-unfolding checkOf word_at checksumOf secondaryOf xorOf bothBytes
-secondary-wrong = refl
+secondary_wrong : check_of (with 0x813C 0x11DA) ≡ Refused SecondaryWrong
+unfolding check_of word_at checksum_of secondary_of xor_of both_bytes
+secondary_wrong = refl
 
 -- Neither is: 9 wins.
-both-wrong : checkOf (with 0x3C81 0x11DA) ≡ Refused ChecksumWrong
-unfolding checkOf word_at checksumOf secondaryOf xorOf bothBytes
-both-wrong = refl
+both_wrong : check_of (with 0x3C81 0x11DA) ≡ Refused ChecksumWrong
+unfolding check_of word_at checksum_of secondary_of xor_of both_bytes
+both_wrong = refl

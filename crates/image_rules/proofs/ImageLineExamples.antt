@@ -5,13 +5,13 @@ use mathlib.Core.List.{[], ◌∷◌}
 use lib.ListN.{replicate}
 use Rattle.refusal.specs.declared.Refusal.TheVariants.{SecondaryWrong}
 use Rattle.image_rules.specs.declared.Checked.TheVariants.{Sound, Refused}
-use Rattle.image_rules.specs.Image.{word_at, checkOf}
+use Rattle.image_rules.specs.Image.{word_at, check_of}
 use Rattle.image_rules.specs.Line.{line_of}
 
 -- 128 zero bytes: `image refused 8` and a newline.
-zeros : line_of (checkOf (replicate 128 0))
+zeros : line_of (check_of (replicate 128 0))
     ≡ 0x69 ∷ 0x6D ∷ 0x61 ∷ 0x67 ∷ 0x65 ∷ 0x20 ∷ 0x72 ∷ 0x65 ∷ 0x66 ∷ 0x75 ∷ 0x73 ∷ 0x65 ∷ 0x64 ∷ 0x20 ∷ 0x38 ∷ 0x0A ∷ []
-unfolding checkOf word_at
+unfolding check_of word_at
 zeros = refl
 
 -- `image refused 10`

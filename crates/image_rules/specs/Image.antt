@@ -16,14 +16,14 @@ abbrev pub byte_at : List ℕ → ℕ → ℕ
 byte_at image place = get_or image place 0
 
 -- Words stand low byte first.
-abbrev pub lowAt : List ℕ → ℕ → ℕ
-lowAt image w = byte_at image (place_of w)
+abbrev pub low_at : List ℕ → ℕ → ℕ
+low_at image w = byte_at image (place_of w)
 
-abbrev pub highAt : List ℕ → ℕ → ℕ
-highAt image w = byte_at image (place_of w + 1)
+abbrev pub high_at : List ℕ → ℕ → ℕ
+high_at image w = byte_at image (place_of w + 1)
 
 unfoldable pub word_at : List ℕ → ℕ → ℕ
-word_at image w = highAt image w * 256 + lowAt image w
+word_at image w = high_at image w * 256 + low_at image w
 
 -- Words first to last.
 abbrev pub from : ℕ → ℕ → List ℕ
@@ -34,29 +34,29 @@ abbrev pub span : ℕ → ℕ → List ℕ
 span first last = from first (suc last - first)
 
 -- These words, except those.
-abbrev pub isAmong : ℕ → List ℕ → Bool
-isAmong w [] = false
-isAmong w (v ∷ those) = eqb v w || isAmong w those
+abbrev pub is_among : ℕ → List ℕ → Bool
+is_among w [] = false
+is_among w (v ∷ those) = eqb v w || is_among w those
 
 abbrev pub except : List ℕ → List ℕ → List ℕ
 except [] those = []
-except (w ∷ these) those = cond (isAmong w those) (except these those) (w ∷ except these those)
+except (w ∷ these) those = cond (is_among w those) (except these those) (w ∷ except these those)
 
 -- Exclusive-or of both bytes of the words at the offsets.
-unfoldable pub bothBytes : List ℕ → ℕ → ℕ
-bothBytes image w = bit_xor (highAt image w) (lowAt image w)
+unfoldable pub both_bytes : List ℕ → ℕ → ℕ
+both_bytes image w = bit_xor (high_at image w) (low_at image w)
 
-unfoldable pub xorOf : List ℕ → List ℕ → ℕ
-xorOf image [] = 0
-xorOf image (w ∷ offsets) = bit_xor (bothBytes image w) (xorOf image offsets)
+unfoldable pub xor_of : List ℕ → List ℕ → ℕ
+xor_of image [] = 0
+xor_of image (w ∷ offsets) = bit_xor (both_bytes image w) (xor_of image offsets)
 
 -- High byte of 0Fh: exclusive-or of both bytes of words 00h-0Eh except 08h, 09h, 0Dh.
 -- Low byte: the same over 08h, 09h, 0Dh.
 abbrev pub configuration : List ℕ
 configuration = 0x08 ∷ 0x09 ∷ 0x0D ∷ []
 
-unfoldable pub checksumOf : List ℕ → ℕ
-checksumOf image = xorOf image (except (span 0x00 0x0E) configuration) * 256 + xorOf image configuration
+unfoldable pub checksum_of : List ℕ → ℕ
+checksum_of image = xor_of image (except (span 0x00 0x0E) configuration) * 256 + xor_of image configuration
 
 -- The vital data checksum covers words 10h, 11h, and 12h as well as words 20h through 3Fh.
 -- The configurable data checksum covers words 13h through 16h.
@@ -67,20 +67,20 @@ abbrev pub configurable : List ℕ
 configurable = span 0x13 0x16
 
 -- Word 17h: the high byte is the vital data checksum; the low byte is the configurable data checksum.
-unfoldable pub secondaryOf : List ℕ → ℕ
-secondaryOf image = xorOf image vital * 256 + xorOf image configurable
+unfoldable pub secondary_of : List ℕ → ℕ
+secondary_of image = xor_of image vital * 256 + xor_of image configurable
 
 -- The refusal, unless the test holds.
-abbrev pub orRefused : Bool → Refusal → Checked → Checked
-orRefused true why answer = answer
-orRefused false why answer = Refused why
+abbrev pub or_refused : Bool → Refusal → Checked → Checked
+or_refused true why answer = answer
+or_refused false why answer = Refused why
 
 -- Image not 128 bytes; word 07h is not 6D50h; word 0Fh is not the checksum; word 17h is not the
 -- secondary checksums: the first of these wins. A sound image gives words 00h-02h.
-unfoldable pub checkOf : List ℕ → Checked
-checkOf image =
-    orRefused (eqb (length image) 128) LengthOutside
-    (orRefused (eqb (word_at image 0x07) 0x6D50) MakerWrong
-    (orRefused (eqb (word_at image 0x0F) (checksumOf image)) ChecksumWrong
-    (orRefused (eqb (word_at image 0x17) (secondaryOf image)) SecondaryWrong
+unfoldable pub check_of : List ℕ → Checked
+check_of image =
+    or_refused (eqb (length image) 128) LengthOutside
+    (or_refused (eqb (word_at image 0x07) 0x6D50) MakerWrong
+    (or_refused (eqb (word_at image 0x0F) (checksum_of image)) ChecksumWrong
+    (or_refused (eqb (word_at image 0x17) (secondary_of image)) SecondaryWrong
     (Sound (word_at image 0x00) (word_at image 0x01) (word_at image 0x02)))))

@@ -4,5 +4,5 @@ pub mod Image
 -- the line that is printed
 pub mod Line
 -- the public calls
-pub mod Contracts
+pub mod ImageContracts
 pub mod Put

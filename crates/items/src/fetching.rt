@@ -2,9 +2,9 @@
 ghost use Rattle.std.specs.Prelude.{◌≤◌, length};
 ghost use Rattle.card_rules.specs.Access.{WriteWord, access};
 ghost use Rattle.card_rules.specs.View.{view, Sound, Stands};
-ghost use Rattle.driver_rules.specs.Registers.{commandPort, rxDiscard};
+ghost use Rattle.driver_rules.specs.Registers.{command_port, rx_discard};
 ghost use Rattle.driver_rules.specs.Talk.{run};
-ghost use Rattle.driver_rules.specs.Items.{fetchTalk};
+ghost use Rattle.driver_rules.specs.Items.{fetch_talk};
 ghost use Rattle.driver_rules.specs.Meets.{Ready, Ended, Read};
 ghost use Rattle.driver_rules.specs.Serves.{Unmoved};
 
@@ -38,7 +38,7 @@ fn read_frame(ram: &[u8], dir: &[u16], c: Card, area: &mut [u8], n: usize) -> Ca
 // RX Discard: the oldest frame leaves the card.
 pub fn discard(ram: &mut [u8], dir: &mut [u16], c: Card) -> Card
     requires { Sound c ram.old dir.old }
-    ensures { Stands result ram.new dir.new (access (WriteWord commandPort rxDiscard) (view c ram.old dir.old)).adapter }
+    ensures { Stands result ram.new dir.new (access (WriteWord command_port rx_discard) (view c ram.old dir.old)).adapter }
 {
     steps::write_word(ram, dir, c, driver_rules::STATUS, driver_rules::RX_DISCARD)
 }
@@ -55,7 +55,7 @@ pub fn fetch(
     n: usize,
 ) -> Served
     requires { Ready c ram.old dir.old look.old frame.old × (n ≤ 1514) }
-    ensures { Ended left (run (fetchTalk left d n) (view c ram.old dir.old)) result (view result.card ram.new dir.new) look.old frame.old look.new frame.new × (Sound result.card ram.new dir.new × Unmoved (run (fetchTalk left d n) (view c ram.old dir.old)) c result.card ram.old dir.old ram.new dir.new) }
+    ensures { Ended left (run (fetch_talk left d n) (view c ram.old dir.old)) result (view result.card ram.new dir.new) look.old frame.old look.new frame.new × (Sound result.card ram.new dir.new × Unmoved (run (fetch_talk left d n) (view c ram.old dir.old)) c result.card ram.old dir.old ram.new dir.new) }
 {
     let cost = (n + 1) / 2 + 1;
     if left < cost {

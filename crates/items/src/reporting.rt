@@ -1,7 +1,7 @@
 // The report of a packet, an item of a service.
 ghost use Rattle.card_rules.specs.View.{view, Sound};
 ghost use Rattle.driver_rules.specs.Talk.{run};
-ghost use Rattle.driver_rules.specs.Items.{reportTalk};
+ghost use Rattle.driver_rules.specs.Items.{report_talk};
 ghost use Rattle.driver_rules.specs.Meets.{Tells};
 ghost use Rattle.driver_rules.specs.Serves.{Unmoved};
 
@@ -12,7 +12,7 @@ use driver_rules::{Driver, Served};
 // The report of the oldest status, with 4 left. TX Enable only where no status is left: an error must not be passed over.
 pub fn report(ram: &mut [u8], dir: &mut [u16], c: Card, d: Driver, left: usize) -> Served
     requires { Sound c ram.old dir.old }
-    ensures { Tells left (run (reportTalk left d) (view c ram.old dir.old)) result (view result.card ram.new dir.new) × (Sound result.card ram.new dir.new × Unmoved (run (reportTalk left d) (view c ram.old dir.old)) c result.card ram.old dir.old ram.new dir.new) }
+    ensures { Tells left (run (report_talk left d) (view c ram.old dir.old)) result (view result.card ram.new dir.new) × (Sound result.card ram.new dir.new × Unmoved (run (report_talk left d) (view c ram.old dir.old)) c result.card ram.old dir.old ram.new dir.new) }
 {
     if left < 4 {
         return telling::short(c, d, left);

@@ -2,7 +2,7 @@
 ghost use Rattle.std.specs.Prelude.{◌≡◌, false};
 ghost use Rattle.refusal.specs.declared.Refusal.TheVariants.{BudgetShort};
 ghost use Rattle.driver_rules.specs.declared.Answer.TheVariants.{Refused};
-ghost use Rattle.driver_rules.specs.Driver.{withError};
+ghost use Rattle.driver_rules.specs.Driver.{with_error};
 ghost use Rattle.driver_rules.specs.Items.{reports};
 
 use card_rules::Card;
@@ -37,7 +37,7 @@ pub fn ended(c: Card, d: Driver, answer: Answer, left: usize) -> Served
 
 // Whether an error was seen.
 pub fn with_error(d: Driver, error: bool) -> Driver
-    ensures { result ≡ withError error d }
+    ensures { result ≡ with_error error d }
 {
     Driver {
         opened: d.opened,

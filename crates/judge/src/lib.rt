@@ -2,10 +2,10 @@
 // bytes and length as they are written.
 ghost use Rattle.std.specs.Prelude.{◌≡◌, ◌≤◌, ◌<◌, get_or};
 ghost use Rattle.store.specs.Store.{round4};
-ghost use Rattle.driver_rules.specs.Driver.{driverSound};
-ghost use Rattle.driver_rules.specs.Packet.{outside, lacksRoom};
-ghost use Rattle.receive_rules.specs.Count.{decoded as decodedOf};
-ghost use Rattle.driver_rules.specs.Registers.{unfit, txComplete, rxComplete, bad, lengthIn};
+ghost use Rattle.driver_rules.specs.Driver.{driver_sound};
+ghost use Rattle.driver_rules.specs.Packet.{outside, lacks_room};
+ghost use Rattle.receive_rules.specs.Count.{decoded as decoded_of};
+ghost use Rattle.driver_rules.specs.Registers.{unfit, tx_complete, rx_complete, bad, length_in};
 
 use driver_rules::Driver;
 
@@ -13,7 +13,7 @@ pub mod sizes; // sizes.rt: the paper's numbers: the areas, the lengths of frame
 
 // The driver's part of the test of soundness.
 pub fn driver_sound(d: Driver) -> bool
-    ensures { result ≡ driverSound d }
+    ensures { result ≡ driver_sound d }
 {
     d.unreported <= sizes::MOST_UNREPORTED
 }
@@ -27,21 +27,21 @@ pub fn is_unfit(status: u16) -> bool
 
 // Whether a Status word has TX Complete: a status waits on the stack.
 pub fn is_tx_complete(status: u16) -> bool
-    ensures { result ≡ txComplete status }
+    ensures { result ≡ tx_complete status }
 {
     bits::has(status, 4)
 }
 
 // Whether a Status word has RX Complete: the oldest frame has come to its end.
 pub fn is_rx_complete(status: u16) -> bool
-    ensures { result ≡ rxComplete status }
+    ensures { result ≡ rx_complete status }
 {
     bits::has(status, 16)
 }
 
 // The unread bytes that RX Status tells.
 fn decoded(rx: u16) -> i16
-    ensures { result ≡ decodedOf rx }
+    ensures { result ≡ decoded_of rx }
 {
     let told = rx % sizes::COUNT_VALUES;
     if told <= sizes::MOST_UNREAD {
@@ -60,7 +60,7 @@ pub fn is_bad(rx: u16) -> bool
 
 // The unread bytes that RX Status tells, as a length: none below 0.
 pub fn length(rx: u16) -> usize
-    ensures { result ≡ lengthIn rx }
+    ensures { result ≡ length_in rx }
 {
     let count = decoded(rx);
     if count < 0 {
@@ -97,7 +97,7 @@ pub fn is_outside(n: usize) -> bool
 // Whether TX Free is below what a packet of n bytes needs.
 pub fn lacks_room(free: u16, n: usize) -> bool
     requires { n ≤ 1514 }
-    ensures { result ≡ lacksRoom free n }
+    ensures { result ≡ lacks_room free n }
 {
     (free as usize) < 4 + round_up(n)
 }

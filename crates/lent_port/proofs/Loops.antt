@@ -11,14 +11,14 @@ use lib.ListN.{length, take, drop, get_or, set, replicate, take-append-drop}
 use lib.Seq.{drop-cons, take-suc-set, append_snoc, drop-set-lt, drop-drop}
 use borrow.Author.Tests.{eq-eqb, ne_eqb, lt-ltb}
 use Rattle.port_rules.specs.declared.IdState.{IdState}
-use Rattle.port_rules.specs.Card.{idWrite, idAfterRead}
-use Rattle.port_rules.specs.Sequence.{idByte}
-use Rattle.port_rules.specs.Search.{idBytes, allOnes}
+use Rattle.port_rules.specs.Card.{id_write, id_after_read}
+use Rattle.port_rules.specs.Sequence.{id_byte}
+use Rattle.port_rules.specs.Search.{id_bytes, all_ones}
 use Rattle.port_rules.specs.Calls.{padded}
 use Rattle.found.specs.OneCard.{wrote, heard}
-use Rattle.found.proofs.Rounds.{costs-on}
+use Rattle.found.proofs.Rounds.{costs_on}
 use Rattle.lent_port.specs.declared.roll.Progress.{Progress}
-use Rattle.lent_port.specs.Roll.{calledUp, hears, least, struck, found, roundsCost, through}
+use Rattle.lent_port.specs.Roll.{called_up, hears, least, struck, found, rounds_cost, through}
 use Rattle.lent_port.specs.Steps.{Blank, Finishes}
 use Rattle.lent_port.proofs.Ones.{least-top}
 
@@ -31,27 +31,27 @@ drop_all (x ∷ xs) (suc i) h = drop_all xs i (le_of_suc-le-suc h)
 
 -- the sequence, from its i-th byte on
 abbrev pub CalledAt : ℕ → ℕ → IdState → IdState → Type 0
-CalledAt p i s₀ s = wrote p (idBytes i (255 - i)) s ≡ wrote p (idBytes 0 255) s₀
+CalledAt p i s₀ s = wrote p (id_bytes i (255 - i)) s ≡ wrote p (id_bytes 0 255) s₀
 
-pub called-turn : (p i : ℕ) (s₀ s r : IdState) (byte : ℕ) → i < 255 → byte ≡ idByte i → r ≡ idWrite s p byte → CalledAt p i s₀ s → CalledAt p (i + 1) s₀ r
-unfolding wrote idBytes
-called-turn p i s₀ s r byte h b e c =
+pub called_turn : (p i : ℕ) (s₀ s r : IdState) (byte : ℕ) → i < 255 → byte ≡ id_byte i → r ≡ id_write s p byte → CalledAt p i s₀ s → CalledAt p (i + 1) s₀ r
+unfolding wrote id_bytes
+called_turn p i s₀ s r byte h b e c =
     let n : 255 - i ≡ suc (255 - (i + 1)) = omega arith in
-    (λ z. wrote p (idBytes (add-one i z) (255 - (i + 1))) ((e ∙ ap (idWrite s p) b) z)) ∙ ap (λ (k : ℕ). wrote p (idBytes i k) s) (sym n) ∙ c
+    (λ z. wrote p (id_bytes (add-one i z) (255 - (i + 1))) ((e ∙ ap (id_write s p) b) z)) ∙ ap (λ (k : ℕ). wrote p (id_bytes i k) s) (sym n) ∙ c
 
-pub called-end : (p i : ℕ) (s₀ s o t : IdState) → 255 ≤ i → i ≤ 255 → o ≡ idWrite t p 0 → s₀ ≡ idWrite o p 0 → CalledAt p i s₀ s → s ≡ calledUp p t
-unfolding wrote idBytes calledUp
-called-end p i s₀ s o t h k e f c =
+pub called_end : (p i : ℕ) (s₀ s o t : IdState) → 255 ≤ i → i ≤ 255 → o ≡ id_write t p 0 → s₀ ≡ id_write o p 0 → CalledAt p i s₀ s → s ≡ called_up p t
+unfolding wrote id_bytes called_up
+called_end p i s₀ s o t h k e f c =
     let n : 255 - i ≡ 0 = omega arith in
-    sym (ap (λ (m : ℕ). wrote p (idBytes i m) s) n) ∙ c ∙ ap (wrote p (idBytes 0 255)) (f ∙ ap (λ (u : IdState). idWrite u p 0) e)
+    sym (ap (λ (m : ℕ). wrote p (id_bytes i m) s) n) ∙ c ∙ ap (wrote p (id_bytes 0 255)) (f ∙ ap (λ (u : IdState). id_write u p 0) e)
 
 -- sixteen bits of a word, from the i-th on
 abbrev pub HeardAt : ℕ → ℕ → ℕ → IdState → ℕ → IdState → Type 0
 HeardAt p i w₀ s₀ w s = heard p (16 - i) w s ≡ heard p 16 w₀ s₀
 
-pub heard-turn : (p i w₀ w : ℕ) (s₀ s r : IdState) → i < 16 → r ≡ idAfterRead s p (w / 32768) → HeardAt p i w₀ s₀ w s → HeardAt p (i + 1) w₀ s₀ (w * 2 % 65536) r
+pub heard_turn : (p i w₀ w : ℕ) (s₀ s r : IdState) → i < 16 → r ≡ id_after_read s p (w / 32768) → HeardAt p i w₀ s₀ w s → HeardAt p (i + 1) w₀ s₀ (w * 2 % 65536) r
 unfolding heard
-heard-turn p i w₀ w s₀ s r h e c =
+heard_turn p i w₀ w s₀ s r h e c =
     let n : 16 - i ≡ suc (16 - (i + 1)) = omega arith in
     ap (heard p (16 - (i + 1)) (w * 2 % 65536)) e ∙ ap (λ (k : ℕ). heard p k w s) (sym n) ∙ c
 
@@ -61,34 +61,34 @@ heard-end p i w₀ w s₀ s h c = let n : 16 - i ≡ 0 = omega arith in sym (ap 
 
 -- the least of the addresses, from the i-th on
 abbrev pub LeastAt : List ℕ → ℕ → ℕ → Type 0
-LeastAt xs i a = (min a (least (drop i xs)) ≡ least xs) × (a ≤ allOnes)
+LeastAt xs i a = (min a (least (drop i xs)) ≡ least xs) × (a ≤ all_ones)
 
-pub least_start : (xs : List ℕ) → LeastAt xs 0 allOnes
-least_start xs = (let t : least xs ≤ allOnes = least-top xs in omega arith, omega arith)
+pub least_start : (xs : List ℕ) → LeastAt xs 0 all_ones
+least_start xs = (let t : least xs ≤ all_ones = least-top xs in omega arith, omega arith)
 
-pub least-turn : (xs : List ℕ) (i a b d : ℕ) → i < length xs → b ≡ min a (get_or xs i d) → LeastAt xs i a → LeastAt xs (i + 1) b
+pub least_turn : (xs : List ℕ) (i a b d : ℕ) → i < length xs → b ≡ min a (get_or xs i d) → LeastAt xs i a → LeastAt xs (i + 1) b
 unfolding least
-least-turn xs i a b d h e (c, t) =
+least_turn xs i a b d h e (c, t) =
     let q : least (drop i xs) ≡ min (get_or xs i d) (least (drop (i + 1) xs)) = ap least (drop-cons xs i d h ∙ ap (λ (k : ℕ). get_or xs i d ∷ drop k xs) (sym (add-one i))) in
     (omega arith, omega arith)
 
 pub least-end : (xs : List ℕ) (i a : ℕ) → length xs ≤ i → LeastAt xs i a → a ≡ least xs
 unfolding least
-least-end xs i a h (c, t) = let q : least (drop i xs) ≡ allOnes = ap least (drop_all xs i h) in omega arith
+least-end xs i a h (c, t) = let q : least (drop i xs) ≡ all_ones = ap least (drop_all xs i h) in omega arith
 
 -- one card through the rounds, from the i-th on
 abbrev pub ThroughAt : ℕ → ℕ → List ℕ → IdState → IdState → Type 0
 ThroughAt p i xs s₀ s = through p (7 - i) (drop i xs) s ≡ through p 7 xs s₀
 
-pub through-turn : (p i d a : ℕ) (xs : List ℕ) (s₀ s r : IdState) (tag : ℕ) → i < 7 → i < length xs → a ≡ get_or xs i d → tag ≡ i + 1 → r ≡ idWrite (hears p a (calledUp p s)) p (208 + tag) → ThroughAt p i xs s₀ s → ThroughAt p (i + 1) xs s₀ r
+pub through_turn : (p i d a : ℕ) (xs : List ℕ) (s₀ s r : IdState) (tag : ℕ) → i < 7 → i < length xs → a ≡ get_or xs i d → tag ≡ i + 1 → r ≡ id_write (hears p a (called_up p s)) p (208 + tag) → ThroughAt p i xs s₀ s → ThroughAt p (i + 1) xs s₀ r
 unfolding through
-through-turn p i d a xs s₀ s r tag h l b t e c =
+through_turn p i d a xs s₀ s r tag h l b t e c =
     let n : 7 - i ≡ suc (7 - (i + 1)) = omega arith in
     let g : tag ≡ 7 - (7 - (i + 1)) = omega arith in
     let q : drop i xs ≡ get_or xs i d ∷ drop (i + 1) xs = drop-cons xs i d l ∙ ap (λ (k : ℕ). get_or xs i d ∷ drop k xs) (sym (add-one i)) in
-    ap (through p (7 - (i + 1)) (drop (i + 1) xs)) (e ∙ (λ z. idWrite (hears p (b z) (calledUp p s)) p (208 + g z))) ∙ (λ z. through p (sym n z) (sym q z) s) ∙ c
+    ap (through p (7 - (i + 1)) (drop (i + 1) xs)) (e ∙ (λ z. id_write (hears p (b z) (called_up p s)) p (208 + g z))) ∙ (λ z. through p (sym n z) (sym q z) s) ∙ c
 
-pub through-ones : (p i : ℕ) (xs : List ℕ) (s₀ s r : IdState) → i < 7 → length xs ≤ i → r ≡ hears p allOnes (calledUp p s) → ThroughAt p i xs s₀ s → r ≡ through p 7 xs s₀
+pub through-ones : (p i : ℕ) (xs : List ℕ) (s₀ s r : IdState) → i < 7 → length xs ≤ i → r ≡ hears p all_ones (called_up p s) → ThroughAt p i xs s₀ s → r ≡ through p 7 xs s₀
 unfolding through
 through-ones p i xs s₀ s r h l e c =
     let n : 7 - i ≡ suc (6 - i) = omega arith in
@@ -99,45 +99,45 @@ unfolding through
 through-end p i xs s₀ s h c = let n : 7 - i ≡ 0 = omega arith in sym (ap (λ (k : ℕ). through p k (drop i xs) s) n) ∙ c
 
 -- The rounds' three ways on: no tag free, forty-eight ones, a survivor tagged and the same search with one tag fewer.
-pub finish-none : (free : ℕ) (f : Progress) → free ≡ 0 → Blank f → Finishes free f f
+pub finish_none : (free : ℕ) (f : Progress) → free ≡ 0 → Blank f → Finishes free f f
 unfolding found
-finish-none free f e z = rw e (record { many = omega arith; listed = sym (append-nil (take f.count f.addresses)); blank = z; cost = omega arith })
+finish_none free f e z = rw e (record { many = omega arith; listed = sym (append-nil (take f.count f.addresses)); blank = z; cost = omega arith })
 
-pub finish-ones : (free a : ℕ) (f : Progress) → (free ≡ 0 → ⊥) → a ≡ least f.left → a ≡ allOnes → Blank f → Finishes free f (record { left = f.left; addresses = f.addresses; count = f.count; accesses = f.accesses + 308 })
+pub finish_ones : (free a : ℕ) (f : Progress) → (free ≡ 0 → ⊥) → a ≡ least f.left → a ≡ all_ones → Blank f → Finishes free f (record { left = f.left; addresses = f.addresses; count = f.count; accesses = f.accesses + 308 })
 unfolding found
-finish-ones zero a f n l e z = absurd (n refl)
-finish-ones (suc g) a f n l e z =
-    let q : found (suc g) f.left ≡ [] = ap (λ (b : Bool). cond b [] (least f.left ∷ found g (struck (least f.left) f.left))) (eq-eqb (least f.left) allOnes (sym l ∙ e)) in
+finish_ones zero a f n l e z = absurd (n refl)
+finish_ones (suc g) a f n l e z =
+    let q : found (suc g) f.left ≡ [] = ap (λ (b : Bool). cond b [] (least f.left ∷ found g (struck (least f.left) f.left))) (eq-eqb (least f.left) all_ones (sym l ∙ e)) in
     let many : f.count ≡ f.count + 0 = omega arith in
-    let cost : f.accesses + 308 ≡ f.accesses + roundsCost 0 (suc g) = rw (lt-ltb 0 (suc g) (omega arith)) (omega arith) in
+    let cost : f.accesses + 308 ≡ f.accesses + rounds_cost 0 (suc g) = rw (lt-ltb 0 (suc g) (omega arith)) (omega arith) in
     record {
       many = many ∙ ap (λ (l : List ℕ). f.count + length l) (sym q);
       listed = sym (append-nil (take f.count f.addresses)) ∙ ap (λ (l : List ℕ). take f.count f.addresses ++ l) (sym q);
       blank = z;
-      cost = cost ∙ ap (λ (l : List ℕ). f.accesses + roundsCost (length l) (suc g)) (sym q);
+      cost = cost ∙ ap (λ (l : List ℕ). f.accesses + rounds_cost (length l) (suc g)) (sym q);
     }
 
 abbrev pub joined : Progress → ℕ → List ℕ → Progress
 joined f a xs = record { left = xs; addresses = set f.addresses f.count a; count = f.count + 1; accesses = f.accesses + 309 }
 
 -- zeros stand past one address more
-pub blank-joined : (xs : List ℕ) (n a : ℕ) → n < 7 → drop n xs ≡ replicate (7 - n) 0 → drop (n + 1) (set xs n a) ≡ replicate (7 - (n + 1)) 0
-blank-joined xs n a h z =
+pub blank_joined : (xs : List ℕ) (n a : ℕ) → n < 7 → drop n xs ≡ replicate (7 - n) 0 → drop (n + 1) (set xs n a) ≡ replicate (7 - (n + 1)) 0
+blank_joined xs n a h z =
     let m : 7 - n ≡ suc (7 - (n + 1)) = omega arith in
     drop-set-lt (n + 1) xs n a (omega arith) ∙ sym (drop-drop 1 n xs) ∙ ap (drop 1) (z ∙ ap (λ (k : ℕ). replicate k 0) m)
 
-pub finish-more : (free a : ℕ) (f r : Progress) (xs : List ℕ) → (free ≡ 0 → ⊥) → a ≡ least f.left → (a ≡ allOnes → ⊥) → xs ≡ struck a f.left → f.count < length f.addresses → Finishes (free - 1) (joined f a xs) r → Finishes free f r
+pub finish_more : (free a : ℕ) (f r : Progress) (xs : List ℕ) → (free ≡ 0 → ⊥) → a ≡ least f.left → (a ≡ all_ones → ⊥) → xs ≡ struck a f.left → f.count < length f.addresses → Finishes (free - 1) (joined f a xs) r → Finishes free f r
 unfolding found
-finish-more zero a f r xs n l e s h g = absurd (n refl)
-finish-more (suc k) a f r xs n l e s h g =
+finish_more zero a f r xs n l e s h g = absurd (n refl)
+finish_more (suc k) a f r xs n l e s h g =
     let j : suc k - 1 ≡ k = omega arith in
     let ys : List ℕ = found k xs in
     let t : struck a f.left ≡ struck (least f.left) f.left = ap (λ (x : ℕ). struck x f.left) l in
     let q : found (suc k) f.left ≡ a ∷ ys =
-    ap (λ (b : Bool). cond b [] (least f.left ∷ found k (struck (least f.left) f.left))) (ne_eqb (least f.left) allOnes (λ x. e (l ∙ x))) ∙ (λ i. sym l i ∷ found k (sym (s ∙ t) i)) in
+    ap (λ (b : Bool). cond b [] (least f.left ∷ found k (struck (least f.left) f.left))) (ne_eqb (least f.left) all_ones (λ x. e (l ∙ x))) ∙ (λ i. sym l i ∷ found k (sym (s ∙ t) i)) in
     let g' : Finishes k (joined f a xs) r = subst (λ (m : ℕ). Finishes m (joined f a xs) r) j g in
     let many : f.count + 1 + length ys ≡ f.count + length (a ∷ ys) = omega arith in
-    let cost : f.accesses + 309 + roundsCost (length ys) k ≡ f.accesses + roundsCost (length (a ∷ ys)) (suc k) = omega (arith, costs-on (length ys) k) in
+    let cost : f.accesses + 309 + rounds_cost (length ys) k ≡ f.accesses + rounds_cost (length (a ∷ ys)) (suc k) = omega (arith, costs_on (length ys) k) in
     record {
       many = g'.many ∙ many ∙ ap (λ (l : List ℕ). f.count + length l) (sym q);
       listed =
@@ -145,7 +145,7 @@ finish-more (suc k) a f r xs n l e s h g =
           ∙ ap (λ (zs : List ℕ). zs ++ ys) (take-suc-set f.addresses f.count a h) ∙ append_snoc (take f.count f.addresses) a ys
           ∙ ap (λ (l : List ℕ). take f.count f.addresses ++ l) (sym q);
       blank = g'.blank;
-      cost = g'.cost ∙ cost ∙ ap (λ (l : List ℕ). f.accesses + roundsCost (length l) (suc k)) (sym q);
+      cost = g'.cost ∙ cost ∙ ap (λ (l : List ℕ). f.accesses + rounds_cost (length l) (suc k)) (sym q);
     }
 
 -- the seven places of what is found

@@ -12,11 +12,11 @@ use borrow.Author.Tests.{leb-true, leb-false, le-leb, lt-leb}
 use Rattle.bits.proofs.Tests.{both}
 use Rattle.port_rules.specs.declared.IdState.{IdState}
 use Rattle.port_rules.specs.declared.Bus.{Bus}
-use Rattle.port_rules.specs.Port.{held, rest, seated, Access, write, read, Talk, done, ask, run, value, after, portWrite, portBit, portRead}
+use Rattle.port_rules.specs.Port.{held, rest, seated, Access, write, read, Talk, done, ask, run, value, after, port_write, port_bit, port_read}
 use Rattle.port_rules.specs.Search.{search, activate}
-use Rattle.port_rules.specs.Calls.{told, Outcome, padded, allSound, allowed, refusing, judged, ended}
+use Rattle.port_rules.specs.Calls.{told, Outcome, padded, all_sound, allowed, refusing, judged, ended}
 use Rattle.port_rules.specs.Lent.{lent}
-use Rattle.lent_port.specs.Steps.{portFits}
+use Rattle.lent_port.specs.Steps.{port_fits}
 
 -- all the slice's cards are there
 pub held-lent : (xs : List IdState) → held (lent xs) ≡ xs
@@ -33,17 +33,17 @@ few-same : (n : ℕ) (b : Bool) → leb n 8 ≡ b → leb (min n 9) 8 ≡ leb n 
 few-same n true e = let h : n ≤ 8 = leb-true n 8 e in let m : min n 9 ≤ 8 = omega arith in le-leb (min n 9) 8 m ∙ sym e
 few-same n false e = let h : 8 < n = leb-false n 8 e in let m : 8 < min n 9 = omega arith in lt-leb (min n 9) 8 m ∙ sym e
 
-pub fits-lent : (port n count : ℕ) (xs : List IdState) → count ≡ min n 9 → n ≡ length xs → portFits port count ≡ allowed (lent xs) port
+pub fits-lent : (port n count : ℕ) (xs : List IdState) → count ≡ min n 9 → n ≡ length xs → port_fits port count ≡ allowed (lent xs) port
 unfolding allowed
-fits-lent port n count xs c l = ap (portFits port) c ∙ ap (λ (b : Bool). eqb (port % 16) 0 && eqb (port / 256) 1 && b) (few-same n (leb n 8) refl) ∙ ap (portFits port) l
+fits-lent port n count xs c l = ap (port_fits port) c ∙ ap (λ (b : Bool). eqb (port % 16) 0 && eqb (port / 256) 1 && b) (few-same n (leb n 8) refl) ∙ ap (port_fits port) l
 
 -- Every access keeps the number of cards, and so does every talk.
-pub write-length : (p x : ℕ) (xs : List IdState) → length (portWrite p x xs) ≡ length xs
-unfolding portWrite
+pub write-length : (p x : ℕ) (xs : List IdState) → length (port_write p x xs) ≡ length xs
+unfolding port_write
 write-length p x xs = length-map xs _
 
-pub read_length : (p : ℕ) (xs : List IdState) → length (portRead p xs) ≡ length xs
-unfolding portRead
+pub read_length : (p : ℕ) (xs : List IdState) → length (port_read p xs) ≡ length xs
+unfolding port_read
 read_length p xs = length-map xs _
 
 after-length : (p : ℕ) (a : Access) (xs : List IdState) → length (after p a xs) ≡ length xs
@@ -58,27 +58,27 @@ run_length p (ask a k) xs = run_length p (k (value p a xs)) (after p a xs) ∙ a
 
 -- The refusals and the outcome, one below the other: refusal 1, refusal 12, none; and over the slice.
 module _ (b : Bus) (ok : Bool) (o : Outcome) where
-  pub unsound : allSound (held b) ≡ false → refusing 1 b ≡ judged b ok o
+  pub unsound : all_sound (held b) ≡ false → refusing 1 b ≡ judged b ok o
   unfolding judged
   unsound e = rw e
 
-  pub outside : allSound (held b) ≡ true → ok ≡ false → refusing 12 b ≡ judged b ok o
+  pub outside : all_sound (held b) ≡ true → ok ≡ false → refusing 12 b ≡ judged b ok o
   unfolding judged
   outside e f = rw (e, f)
 
-  pub goes : allSound (held b) ≡ true → ok ≡ true → o ≡ judged b ok o
+  pub goes : all_sound (held b) ≡ true → ok ≡ true → o ≡ judged b ok o
   unfolding judged
   goes e f = rw (e, f)
 
 module _ (xs : List IdState) (ok : Bool) (o : Outcome) where
-  pub unsound-lent : allSound xs ≡ false → refusing 1 (lent xs) ≡ judged (lent xs) ok o
-  unsound-lent e = unsound (lent xs) ok o (ap allSound (held-lent xs) ∙ e)
+  pub unsound-lent : all_sound xs ≡ false → refusing 1 (lent xs) ≡ judged (lent xs) ok o
+  unsound-lent e = unsound (lent xs) ok o (ap all_sound (held-lent xs) ∙ e)
 
-  pub outside-lent : allSound xs ≡ true → ok ≡ false → refusing 12 (lent xs) ≡ judged (lent xs) ok o
-  outside-lent e f = outside (lent xs) ok o (ap allSound (held-lent xs) ∙ e) f
+  pub outside-lent : all_sound xs ≡ true → ok ≡ false → refusing 12 (lent xs) ≡ judged (lent xs) ok o
+  outside-lent e f = outside (lent xs) ok o (ap all_sound (held-lent xs) ∙ e) f
 
-  pub goes-lent : allSound xs ≡ true → ok ≡ true → o ≡ judged (lent xs) ok o
-  goes-lent e f = goes (lent xs) ok o (ap allSound (held-lent xs) ∙ e) f
+  pub goes_lent : all_sound xs ≡ true → ok ≡ true → o ≡ judged (lent xs) ok o
+  goes_lent e f = goes (lent xs) ok o (ap all_sound (held-lent xs) ∙ e) f
 
 -- an allowed call has at most eight cards
 pub few : (b : Bus) (port : ℕ) → allowed b port ≡ true → b.count ≤ 8
@@ -95,16 +95,16 @@ pub record Talked : Type 0 where
 abbrev pub over : Talked → Bus → Outcome
 over t b = ended b (t.values (held b)) (t.found (held b)) (t.cards (held b))
 
-pub over-lent : (t : Talked) (xs : List IdState) → record { reply = told (t.values xs); places = padded (t.found xs); bus = lent (t.cards xs) } ≡ over t (lent xs)
-over-lent t xs =
+pub over_lent : (t : Talked) (xs : List IdState) → record { reply = told (t.values xs); places = padded (t.found xs); bus = lent (t.cards xs) } ≡ over t (lent xs)
+over_lent t xs =
     (λ i. record { reply = told (t.values xs); places = padded (t.found xs); bus = seated-lent xs (t.cards xs) (t.keeps xs) i })
     ∙ ap (λ (l : List IdState). ended (lent xs) (t.values l) (t.found l) (t.cards l)) (sym (held-lent xs))
 
 abbrev pub writing : ℕ → ℕ → Talked
-writing p x = record { values = λ xs. []; found = λ xs. []; cards = portWrite p x; keeps = write-length p x }
+writing p x = record { values = λ xs. []; found = λ xs. []; cards = port_write p x; keeps = write-length p x }
 
 abbrev pub reading : ℕ → Talked
-reading p = record { values = λ xs. portBit p xs ∷ []; found = λ xs. []; cards = portRead p; keeps = read_length p }
+reading p = record { values = λ xs. port_bit p xs ∷ []; found = λ xs. []; cards = port_read p; keeps = read_length p }
 
 abbrev pub searching : ℕ → Talked
 searching p = record { values = λ xs. length (run p search xs).answer ∷ length (run p search xs).accesses ∷ []; found = λ xs. (run p search xs).answer; cards = λ xs. (run p search xs).cards; keeps = run_length p search }

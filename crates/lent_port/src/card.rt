@@ -1,15 +1,15 @@
 // One card by itself, access by access: it sees each byte that is written and hears each bit that the bus carries. A port is its x in 1x0h.
 ghost use Rattle.std.specs.Prelude.{◌≡◌, ◌%◌, ◌+◌, ◌<◌};
-ghost use Rattle.port_rules.specs.Card.{idWrite};
+ghost use Rattle.port_rules.specs.Card.{id_write};
 ghost use Rattle.found.specs.OneCard.{heard};
-ghost use Rattle.lent_port.specs.Roll.{calledUp, hears};
+ghost use Rattle.lent_port.specs.Roll.{called_up, hears};
 
 use idport::{byte_at, id_after_read, id_write};
 use port_rules::IdState;
 
 // Two zeros, sequence.
 pub fn call_up(card: IdState, x: u8) -> IdState
-    ensures { result ≡ calledUp x card }
+    ensures { result ≡ called_up x card }
 {
     let once = id_write(card, x, 0);
     let mut s = id_write(once, x, 0);
@@ -62,7 +62,7 @@ pub fn hear(card: IdState, x: u8, address: u64) -> IdState
 // A round that reads an address and sets a tag.
 pub fn round(card: IdState, x: u8, address: u64, tag: u8) -> IdState
     requires { tag < 8 }
-    ensures { result ≡ idWrite (hears x address (calledUp x card)) x (0xD0 + tag) }
+    ensures { result ≡ id_write (hears x address (called_up x card)) x (0xD0 + tag) }
 {
     let called = call_up(card, x);
     let left = hear(called, x, address);

@@ -1,7 +1,7 @@
 // The cards on one ID port as a lent slice of ID states: a byte written, the port read, the search and the activation of a found card.
 // Each call looks at each card, decides what the accesses carry, and steps each card where it stands. Each contract is that of the call over a bus by value (crate `port`), with the slice for the bus; a refused call leaves the slice as it came.
-ghost use Rattle.port_rules.specs.Lent.{The-same-as-by-value};
-ghost use Rattle.port_rules.specs.Contracts as contract;
+ghost use Rattle.port_rules.specs.Lent.{TheSameAsByValue};
+ghost use Rattle.port_rules.specs.PortContracts as contract;
 
 use port_rules::{Activation, Bit, IdState, Listed, Wrote};
 
@@ -11,7 +11,7 @@ mod roll; // roll.rt: the search
 
 // A byte written to the port, which each card sees. A port is its I/O address, 100h to 1F0h.
 pub fn write(cards: &mut [IdState], port: u16, byte: u8) -> Wrote
-    ensures { contract.lent-write cards.old port byte result cards.new }
+    ensures { contract.LentWrite cards.old port byte result cards.new }
 {
     let mut seen = look::begin(port);
     let mut i = 0;
@@ -30,7 +30,7 @@ pub fn write(cards: &mut [IdState], port: u16, byte: u8) -> Wrote
 
 // A bit read from the port, and the cards as the contention leaves them.
 pub fn read(cards: &mut [IdState], port: u16) -> Bit
-    ensures { contract.lent-read cards.old port result cards.new }
+    ensures { contract.LentRead cards.old port result cards.new }
 {
     let mut seen = look::begin(port);
     let mut i = 0;
@@ -49,7 +49,7 @@ pub fn read(cards: &mut [IdState], port: u16) -> Bit
 
 // The search: the cards found are tagged from 1 on.
 pub fn find(cards: &mut [IdState], port: u16) -> Listed
-    ensures { contract.lent-find cards.old port result cards.new }
+    ensures { contract.LentFind cards.old port result cards.new }
 {
     let mut seen = roll::begin(port);
     let mut i = 0;
@@ -68,7 +68,7 @@ pub fn find(cards: &mut [IdState], port: u16) -> Listed
 
 // Activation of the card with this tag, 1 to 7, at this base number; 31 means preconfigured.
 pub fn activate(cards: &mut [IdState], port: u16, tag: u8, base: u8) -> Activation
-    ensures { contract.lent-activate cards.old port tag base result cards.new }
+    ensures { contract.LentActivate cards.old port tag base result cards.new }
 {
     let mut seen = look::begin(port);
     let mut i = 0;
@@ -87,5 +87,5 @@ pub fn activate(cards: &mut [IdState], port: u16, tag: u8, base: u8) -> Activati
 
 // A slice of at most eight cards and a bus by value that holds the same cards come to the same.
 pub fn the_same_as_by_value()
-    ensures { The-same-as-by-value }
+    ensures { TheSameAsByValue }
 {}

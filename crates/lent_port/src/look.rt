@@ -1,7 +1,7 @@
 // A write, a read or an activation over the slice: a look at each card, the tests, and the step of one card.
 ghost use Rattle.std.specs.Prelude.{◌≡◌, ◌+◌, min, [], ◌∷◌};
-ghost use Rattle.port_rules.specs.Calls.{wroteReply, bitReply, activationReply};
-ghost use Rattle.lent_port.specs.Steps.{unseen, seenWith, writingOf, reading_of, activatingOf, written_by, heardBy, activatedIn, replyOf, orderReply, portFits};
+ghost use Rattle.port_rules.specs.Calls.{wrote_reply, bit_reply, activation_reply};
+ghost use Rattle.lent_port.specs.Steps.{unseen, seen_with, writing_of, reading_of, activating_of, written_by, heard_by, activated_in, reply_of, order_reply, port_fits};
 
 use crate::card::call_up;
 use idport::{id_after_read, id_bit, id_sound, id_write};
@@ -52,7 +52,7 @@ fn least(a: u8, b: u8) -> u8
 
 // A card looked at: whether it is sound, and the bit that it would drive.
 pub fn at(seen: Seen, card: IdState) -> Seen
-    ensures { result ≡ seenWith seen card }
+    ensures { result ≡ seen_with seen card }
 {
     let one = id_sound(card);
     let x = idport::digit(seen.port);
@@ -69,7 +69,7 @@ pub fn at(seen: Seen, card: IdState) -> Seen
 
 // Whether the port is one of 100h, 110h, .. 1F0h, and the cards are at most eight.
 pub fn allowed(port: u16, count: usize) -> bool
-    ensures { result ≡ portFits port count }
+    ensures { result ≡ port_fits port count }
 {
     (port % 16 == 0) & (port / 256 == 1) & (count <= 8)
 }
@@ -84,7 +84,7 @@ pub struct Step {
 }
 
 pub fn writing(seen: Seen, byte: u8) -> Step
-    ensures { result ≡ writingOf seen byte }
+    ensures { result ≡ writing_of seen byte }
 {
     let fit = allowed(seen.port, seen.count);
     let x = idport::digit(seen.port);
@@ -123,7 +123,7 @@ pub fn written(step: Step, card: IdState) -> IdState
 
 // One card after the read. A refused read leaves it as it came.
 pub fn heard(step: Step, card: IdState) -> IdState
-    ensures { result ≡ heardBy step card }
+    ensures { result ≡ heard_by step card }
 {
     if step.sound & step.fit {
         let x = step.x;
@@ -134,7 +134,7 @@ pub fn heard(step: Step, card: IdState) -> IdState
 }
 
 pub fn write_answer(step: Step) -> Wrote
-    ensures { wroteReply result ≡ replyOf step [] }
+    ensures { wrote_reply result ≡ reply_of step [] }
 {
     if !step.sound {
         return Wrote::Refused(Refusal::StateUnsound);
@@ -146,7 +146,7 @@ pub fn write_answer(step: Step) -> Wrote
 }
 
 pub fn read_answer(step: Step) -> Bit
-    ensures { bitReply result ≡ replyOf step (step.value ∷ []) }
+    ensures { bit_reply result ≡ reply_of step (step.value ∷ []) }
 {
     if !step.sound {
         return Bit::Refused(Refusal::StateUnsound);
@@ -169,7 +169,7 @@ pub struct Order {
 }
 
 pub fn activating(seen: Seen, tag: u8, base: u8) -> Order
-    ensures { result ≡ activatingOf seen tag base }
+    ensures { result ≡ activating_of seen tag base }
 {
     let fit = allowed(seen.port, seen.count);
     let x = idport::digit(seen.port);
@@ -193,7 +193,7 @@ pub fn activating(seen: Seen, tag: u8, base: u8) -> Order
 
 // One card after the activation: two zeros, sequence, D8h plus tag, E0h plus base number. A refused activation leaves it as it came.
 pub fn activated(order: Order, card: IdState) -> IdState
-    ensures { result ≡ activatedIn order card }
+    ensures { result ≡ activated_in order card }
 {
     if order.sound & order.fit {
         let x = order.x;
@@ -205,7 +205,7 @@ pub fn activated(order: Order, card: IdState) -> IdState
 }
 
 pub fn activate_answer(order: Order) -> Activation
-    ensures { activationReply result ≡ orderReply order }
+    ensures { activation_reply result ≡ order_reply order }
 {
     if !order.sound {
         return Activation::Refused(Refusal::StateUnsound);

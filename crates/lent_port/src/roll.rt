@@ -1,8 +1,8 @@
 // The search over the slice. A look at each card enters its address on a roll; the rounds are decided on the roll; and each card goes through them by itself, hearing the addresses that the bus carries.
 ghost use Rattle.std.specs.Prelude.{◌≡◌, ◌<◌, min, cond, eqb, take};
-ghost use Rattle.port_rules.specs.Search.{allOnes};
-ghost use Rattle.lent_port.specs.Roll.{takesPart, Worded, least as leastOf, struck as struckOf, through as throughOf};
-ghost use Rattle.lent_port.specs.Steps.{unrolled, rolledWith, Room, Finishes, findingOf, searchedIn, Lists};
+ghost use Rattle.port_rules.specs.Search.{all_ones};
+ghost use Rattle.lent_port.specs.Roll.{takes_part, Worded, least as least_of, struck as struck_of, through as through_of};
+ghost use Rattle.lent_port.specs.Steps.{unrolled, rolled_with, Room, Finishes, finding_of, searched_in, Lists};
 
 use crate::card::{call_up, hear, round};
 use crate::look::{allowed, one_more};
@@ -11,7 +11,7 @@ use port_rules::{Found, IdState, Listed};
 use refusal::Refusal;
 
 // What 48 reads give where no card drives.
-const ALL_ONES: u64 = 0xFFFF_FFFF_FFFF;
+const ALL_ONES: u64 = 0x_ffff_ffff_ffff;
 
 // What the cards looked at so far have told.
 #[derive(Drop)]
@@ -44,7 +44,7 @@ fn wider(x: u16) -> u64
 
 // Words 00h, 01h, 02h as one number; all ones from a card in ID_CMD at another port.
 fn takes_part(card: IdState, x: u8) -> u64
-    ensures { (result ≡ takesPart x card) × Worded card }
+    ensures { (result ≡ takes_part x card) × Worded card }
 {
     let w0 = wider(card.words[0]);
     let w1 = wider(card.words[1]);
@@ -58,7 +58,7 @@ fn takes_part(card: IdState, x: u8) -> u64
 
 // A card looked at: whether it is sound, and its address.
 pub fn at(roll: Roll, card: IdState) -> Roll
-    ensures { (result ≡ rolledWith roll card) × Worded card }
+    ensures { (result ≡ rolled_with roll card) × Worded card }
 {
     let one = id_sound(card);
     let x = idport::digit(roll.port);
@@ -87,7 +87,7 @@ fn lower(a: u64, b: u64) -> u64
 
 // What the bus carries: the least address.
 fn least(addresses: [u64; 8]) -> u64
-    ensures { result ≡ leastOf addresses }
+    ensures { result ≡ least_of addresses }
 {
     let mut a = ALL_ONES;
     let mut i: usize = 0;
@@ -99,7 +99,7 @@ fn least(addresses: [u64; 8]) -> u64
 }
 
 fn unless(x: u64, address: u64) -> u64
-    ensures { result ≡ cond (eqb x address) allOnes x }
+    ensures { result ≡ cond (eqb x address) all_ones x }
 {
     if x == address {
         return ALL_ONES;
@@ -109,7 +109,7 @@ fn unless(x: u64, address: u64) -> u64
 
 // The survivor is tagged: it takes part no more.
 fn struck(mut addresses: [u64; 8], address: u64) -> [u64; 8]
-    ensures { result ≡ struckOf address addresses }
+    ensures { result ≡ struck_of address addresses }
 {
     let mut i: usize = 0;
     while i < 8 {
@@ -166,7 +166,7 @@ pub struct Finding {
 
 // The rounds begin with seven tags free, after two zeros, sequence and D0h.
 pub fn search(roll: Roll) -> Finding
-    ensures { result ≡ findingOf roll }
+    ensures { result ≡ finding_of roll }
 {
     let fit = allowed(roll.port, roll.count);
     let x = idport::digit(roll.port);
@@ -202,7 +202,7 @@ fn at_most_seven(n: usize) -> usize
 
 // One card through the rounds: each reads an address and sets the next tag, and the last reads all ones, if a tag is left.
 fn through(card: IdState, x: u8, addresses: [u64; 7], count: usize) -> IdState
-    ensures { result ≡ throughOf x 7 (take count addresses) card }
+    ensures { result ≡ through_of x 7 (take count addresses) card }
 {
     let n = at_most_seven(count);
     let mut s = card;
@@ -221,7 +221,7 @@ fn through(card: IdState, x: u8, addresses: [u64; 7], count: usize) -> IdState
 
 // One card after the search: two zeros, sequence, D0h; then the rounds. A refused search leaves it as it came.
 pub fn searched(f: Finding, card: IdState) -> IdState
-    ensures { result ≡ searchedIn f card }
+    ensures { result ≡ searched_in f card }
 {
     if f.sound & f.fit {
         let x = f.x;

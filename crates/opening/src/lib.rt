@@ -2,7 +2,7 @@
 ghost use Rattle.std.specs.Prelude.{◌≤◌};
 ghost use Rattle.card_rules.specs.View.{view, Sound, Stands};
 ghost use Rattle.driver_rules.specs.Talk.{run, after};
-ghost use Rattle.driver_rules.specs.Open.{pairWrites, addressWrites, maskWrites, enableWrites, openTalk};
+ghost use Rattle.driver_rules.specs.Open.{pair_writes, address_writes, mask_writes, enable_writes, open_talk};
 ghost use Rattle.driver_rules.specs.Opens.{Opens};
 
 use card_rules::Card;
@@ -12,7 +12,7 @@ use refusal::Refusal;
 // Two address bytes of a word, high byte first.
 fn write_pair(ram: &mut [u8], dir: &mut [u16], c: Card, o: u16, w: u16) -> Card
     requires { Sound c ram.old dir.old × (o ≤ 4) }
-    ensures { Stands result ram.new dir.new (after (pairWrites o w) (view c ram.old dir.old)) }
+    ensures { Stands result ram.new dir.new (after (pair_writes o w) (view c ram.old dir.old)) }
 {
     let high = steps::write_byte(ram, dir, c, o, (w / 256) as u8);
     steps::write_byte(ram, dir, high, o + 1, (w % 256) as u8)
@@ -21,7 +21,7 @@ fn write_pair(ram: &mut [u8], dir: &mut [u16], c: Card, o: u16, w: u16) -> Card
 // Window 2, and the six address bytes.
 fn write_address(ram: &mut [u8], dir: &mut [u16], c: Card, w0: u16, w1: u16, w2: u16) -> Card
     requires { Sound c ram.old dir.old }
-    ensures { Stands result ram.new dir.new (after (addressWrites w0 w1 w2) (view c ram.old dir.old)) }
+    ensures { Stands result ram.new dir.new (after (address_writes w0 w1 w2) (view c ram.old dir.old)) }
 {
     let two = steps::write_word(
         ram,
@@ -38,7 +38,7 @@ fn write_address(ram: &mut [u8], dir: &mut [u16], c: Card, w0: u16, w1: u16, w2:
 // Window 1, filter 5 and Read Zero FFh.
 fn write_masks(ram: &mut [u8], dir: &mut [u16], c: Card) -> Card
     requires { Sound c ram.old dir.old }
-    ensures { Stands result ram.new dir.new (after maskWrites (view c ram.old dir.old)) }
+    ensures { Stands result ram.new dir.new (after mask_writes (view c ram.old dir.old)) }
 {
     let one = steps::write_word(
         ram,
@@ -66,7 +66,7 @@ fn write_masks(ram: &mut [u8], dir: &mut [u16], c: Card) -> Card
 // Interrupt mask 0, RX Enable, TX Enable.
 fn enable(ram: &mut [u8], dir: &mut [u16], c: Card) -> Card
     requires { Sound c ram.old dir.old }
-    ensures { Stands result ram.new dir.new (after enableWrites (view c ram.old dir.old)) }
+    ensures { Stands result ram.new dir.new (after enable_writes (view c ram.old dir.old)) }
 {
     let masked = steps::write_word(
         ram,
@@ -101,7 +101,7 @@ pub fn open(
     w2: u16,
 ) -> Opened
     requires { Sound c ram.old dir.old }
-    ensures { Opens (run (openTalk d w0 w1 w2) (view c ram.old dir.old)) c ram.old dir.old result ram.new dir.new }
+    ensures { Opens (run (open_talk d w0 w1 w2) (view c ram.old dir.old)) c ram.old dir.old result ram.new dir.new }
 {
     let addressed = write_address(ram, dir, c, w0, w1, w2);
     let masked = write_masks(ram, dir, addressed);

@@ -9,8 +9,8 @@ use Rattle.driver_rules.specs.declared.Answer.TheVariants as serving
 use Rattle.refusal.specs.declared.Refusal.TheVariants.{BudgetShort}
 use Rattle.driver_rules.specs.Talk.{run}
 use Rattle.driver_rules.specs.Serves.{discarded}
-use Rattle.driver_rules.specs.Paper.{servicePaper}
-use Rattle.driver_rules.specs.Calls.{soundState, large, serviceCall, Services}
+use Rattle.driver_rules.specs.Paper.{service_paper}
+use Rattle.driver_rules.specs.Calls.{sound_state, large, service_call, Services}
 use Rattle.fits.specs.Agree.{is_refused}
 
 -- the driver and the two lent areas, as they came
@@ -26,26 +26,26 @@ pub record AsItCame (c : Card) (ram dir : List ℕ) (d : Driver) (look frame : L
   pub directory : dir' ≡ dir
   pub left : Left d look frame r look' frame'
 
-abbrev pub A-refused-service-changes-nothing : Type 0
-A-refused-service-changes-nothing =
+abbrev pub ARefusedServiceChangesNothing : Type 0
+ARefusedServiceChangesNothing =
     (c : Card) (ram dir : List ℕ) (d : Driver) (budget : ℕ) (look frame : List ℕ) (r : Serviced) (ram' dir' look' frame' : List ℕ) →
-    Services c ram dir d budget look frame r ram' dir' look' frame' → is_refused (servicePaper r.answer r.used) ≡ true →
+    Services c ram dir d budget look frame r ram' dir' look' frame' → is_refused (service_paper r.answer r.used) ≡ true →
     AsItCame c ram dir d look frame r ram' dir' look' frame'
 
 -- the accesses that a service makes
 abbrev pub made : Card → List ℕ → List ℕ → Driver → ℕ → List ℕ → List ℕ → List Access
-made c ram dir d budget look frame = (run (serviceCall (soundState c ram dir d) (large look frame) d budget) (view c ram dir)).made
+made c ram dir d budget look frame = (run (service_call (sound_state c ram dir d) (large look frame) d budget) (view c ram dir)).made
 
 -- Short of budget: what was finished, a discard, is kept; where none was made, nothing has changed.
-abbrev pub A-service-short-of-budget-leaves-driver-and-areas : Type 0
-A-service-short-of-budget-leaves-driver-and-areas =
+abbrev pub AServiceShortOfBudgetLeavesDriverAndAreas : Type 0
+AServiceShortOfBudgetLeavesDriverAndAreas =
     (c : Card) (ram dir : List ℕ) (d : Driver) (budget : ℕ) (look frame : List ℕ) (r : Serviced) (ram' dir' look' frame' : List ℕ) →
     Services c ram dir d budget look frame r ram' dir' look' frame' → r.answer ≡ serving.Refused BudgetShort → Left d look frame r look' frame'
     × (discarded (made c ram dir d budget look frame) ≡ false → AsItCame c ram dir d look frame r ram' dir' look' frame')
 
 -- A discard is the third access at the earliest: with a budget below 3, answer 6 changes nothing.
-abbrev pub A-service-short-of-a-budget-below-3-changes-nothing : Type 0
-A-service-short-of-a-budget-below-3-changes-nothing =
+abbrev pub AServiceShortOfABudgetBelow3ChangesNothing : Type 0
+AServiceShortOfABudgetBelow3ChangesNothing =
     (c : Card) (ram dir : List ℕ) (d : Driver) (budget : ℕ) (look frame : List ℕ) (r : Serviced) (ram' dir' look' frame' : List ℕ) →
     Services c ram dir d budget look frame r ram' dir' look' frame' → r.answer ≡ serving.Refused BudgetShort → budget < 3 →
     AsItCame c ram dir d look frame r ram' dir' look' frame'

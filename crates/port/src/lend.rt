@@ -1,6 +1,6 @@
 // Each call over a bus with a place for each of its cards: the cards that are there are lent where they lie, as a slice, and what the call over the slice answers is joined to the bus.
 ghost use Rattle.std.specs.Prelude.{◌≡◌, ◌≤◌};
-ghost use Rattle.port_rules.specs.Contracts as contract;
+ghost use Rattle.port_rules.specs.PortContracts as contract;
 
 use port_rules::{
     Activation, AfterActivation, AfterRead, AfterSearch, AfterWrite, Bit, Bus, Listed, Wrote,
@@ -17,7 +17,7 @@ fn after_write(bus: Bus, answer: Wrote) -> AfterWrite
 
 pub fn write(b: Bus, port: u16, byte: u8) -> AfterWrite
     requires { b.count ≤ 8 }
-    ensures { contract.port-write b port byte result }
+    ensures { contract.PortWrite b port byte result }
 {
     let n = b.count;
     let mut next = b;
@@ -36,7 +36,7 @@ fn after_read(bus: Bus, answer: Bit) -> AfterRead
 
 pub fn read(b: Bus, port: u16) -> AfterRead
     requires { b.count ≤ 8 }
-    ensures { contract.port-read b port result }
+    ensures { contract.PortRead b port result }
 {
     let n = b.count;
     let mut next = b;
@@ -58,7 +58,7 @@ fn after_find(bus: Bus, found: Listed) -> AfterSearch
 
 pub fn find(b: Bus, port: u16) -> AfterSearch
     requires { b.count ≤ 8 }
-    ensures { contract.find-cards b port result }
+    ensures { contract.FindCards b port result }
 {
     let n = b.count;
     let mut next = b;
@@ -77,7 +77,7 @@ fn after_activate(bus: Bus, answer: Activation) -> AfterActivation
 
 pub fn activate(b: Bus, port: u16, tag: u8, base: u8) -> AfterActivation
     requires { b.count ≤ 8 }
-    ensures { contract.activate-card b port tag base result }
+    ensures { contract.ActivateCard b port tag base result }
 {
     let n = b.count;
     let mut next = b;

@@ -3,8 +3,8 @@
 ghost use Rattle.std.specs.Prelude.{◌≡◌, cond};
 ghost use Rattle.refusal.specs.Number.{number_of};
 ghost use Rattle.port_rules.specs.Port.{held};
-ghost use Rattle.port_rules.specs.Calls.{allSound};
-ghost use Rattle.port_rules.specs.Contracts as contract;
+ghost use Rattle.port_rules.specs.Calls.{all_sound};
+ghost use Rattle.port_rules.specs.PortContracts as contract;
 
 use port_rules::{
     Activation, AfterActivation, AfterRead, AfterSearch, AfterWrite, Bit, Bus, Found, Wrote,
@@ -15,7 +15,7 @@ mod lend; // lend.rt: the cards that are there, lent as a slice
 
 // Why a bus that counts more cards than its eight places is refused: one of the eight is unsound, else the count is outside.
 fn too_many(b: Bus) -> Refusal
-    ensures { number_of result ≡ cond (allSound (held b)) 12 1 }
+    ensures { number_of result ≡ cond (all_sound (held b)) 12 1 }
 {
     let cards = b.cards;
     let n = b.count;
@@ -27,7 +27,7 @@ fn too_many(b: Bus) -> Refusal
 
 // A byte written to the port, which each card sees. A port is its I/O address, 100h to 1F0h.
 pub fn port_write(b: Bus, port: u16, byte: u8) -> AfterWrite
-    ensures { contract.port-write b port byte result }
+    ensures { contract.PortWrite b port byte result }
 {
     if b.count <= 8 {
         return lend::write(b, port, byte);
@@ -41,7 +41,7 @@ pub fn port_write(b: Bus, port: u16, byte: u8) -> AfterWrite
 
 // A bit read from the port, and the cards as the contention leaves them.
 pub fn port_read(b: Bus, port: u16) -> AfterRead
-    ensures { contract.port-read b port result }
+    ensures { contract.PortRead b port result }
 {
     if b.count <= 8 {
         return lend::read(b, port);
@@ -55,7 +55,7 @@ pub fn port_read(b: Bus, port: u16) -> AfterRead
 
 // The search: the cards found are tagged from 1 on.
 pub fn find_cards(b: Bus, port: u16) -> AfterSearch
-    ensures { contract.find-cards b port result }
+    ensures { contract.FindCards b port result }
 {
     if b.count <= 8 {
         return lend::find(b, port);
@@ -70,7 +70,7 @@ pub fn find_cards(b: Bus, port: u16) -> AfterSearch
 
 // Activation of the card with this tag, 1 to 7, at this base number; 31 means preconfigured.
 pub fn activate_card(b: Bus, port: u16, tag: u8, base: u8) -> AfterActivation
-    ensures { contract.activate-card b port tag base result }
+    ensures { contract.ActivateCard b port tag base result }
 {
     if b.count <= 8 {
         return lend::activate(b, port, tag, base);

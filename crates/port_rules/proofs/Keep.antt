@@ -8,15 +8,15 @@ use lib.Dec.{ltb, eqb}
 use borrow.Author.Tests.{leb-true, le-leb, eqb-true, eqb-false, eq-eqb, ltb-true}
 use Rattle.bits.proofs.Tests.{both}
 use Rattle.port_rules.specs.declared.IdState.{IdState}
-use Rattle.port_rules.specs.Sequence.{idByte}
-use Rattle.port_rules.specs.Card.{tagged, loaded, expected, idWait, idCommand, idWrite, idDrives, idBit, idAfterRead}
-use Rattle.port_rules.specs.Sound.{idSound, Every-step-keeps-soundness}
+use Rattle.port_rules.specs.Sequence.{id_byte}
+use Rattle.port_rules.specs.Card.{tagged, loaded, expected, id_wait, id_command, id_write, id_drives, id_bit, id_after_read}
+use Rattle.port_rules.specs.Sound.{id_sound, EveryStepKeepsSoundness}
 
 pub expected-below : (i x : ℕ) → expected i x ≡ true → i < 255
 unfolding expected
 expected-below i x e = go (ltb i 255) refl e
   where
-    go : (b : Bool) → ltb i 255 ≡ b → cond b (eqb x (idByte i)) false ≡ true → i < 255
+    go : (b : Bool) → ltb i 255 ≡ b → cond b (eqb x (id_byte i)) false ≡ true → i < 255
     go true h e = ltb-true i 255 h
     go false h e = absurd (false≢true e)
 
@@ -39,8 +39,8 @@ implying : (a b : Bool) → (a ≡ true → b ≡ true) → (not a || b) ≡ tru
 implying true b f = f refl
 implying false b f = refl
 
-good : (s : IdState) → idSound s ≡ true → Good s
-unfolding idSound
+good : (s : IdState) → id_sound s ≡ true → Good s
+unfolding id_sound
 good s e =
     let (e4, p4) = both _ _ e in
     let (e3, p3) = both _ _ e4 in
@@ -54,8 +54,8 @@ good s e =
       portless = λ h. eqb-true _ _ (implied _ _ p4 (eq-eqb _ _ h));
     }
 
-sound : (s : IdState) → Good s → idSound s ≡ true
-unfolding idSound
+sound : (s : IdState) → Good s → id_sound s ≡ true
+unfolding id_sound
 sound s g =
     both_true
     (both_true
@@ -88,8 +88,8 @@ module _ (s : IdState) (g : Good s) where
   loads : {d : ℕ} → Good (loaded d s)
   loads = record { ported = g.ported; placed = g.placed; labelled = g.labelled; obeys = g.obeys; portless = g.portless }
 
-  waited : (p x : ℕ) → p < 16 → s.command ≡ false → Good (idWait s p x)
-  unfolding idWait
+  waited : (p x : ℕ) → p < 16 → s.command ≡ false → Good (id_wait s p x)
+  unfolding id_wait
   waited p x h c =
       either (eqb x 0) (λ _. listens c (omega arith) (omega arith) g.labelled (λ _. refl))
       (λ _. either (eqb p s.port)
@@ -102,8 +102,8 @@ module _ (s : IdState) (g : Good s) where
       (λ _. listens c g.ported (omega arith) g.labelled (λ _. refl)))
       (λ _. g))
 
-  commanded : (x : ℕ) → Good (idCommand s x)
-  unfolding idCommand
+  commanded : (x : ℕ) → Good (id_command s x)
+  unfolding id_command
   commanded x =
       either (ltb x 0x80) (λ _. waits refl refl refl g.labelled)
       (λ _. either (ltb x 0xC0) (λ _. loads)
@@ -114,18 +114,18 @@ module _ (s : IdState) (g : Good s) where
       (λ _. either (eqb (x - 0xD8) s.tag) (λ _. g) (λ _. waits refl refl refl g.labelled))
       (λ _. either (eqb x 0xFF) (λ _. waits refl refl refl g.labelled) (λ _. waits refl refl refl g.labelled))))))
 
-  written : (p x : ℕ) → p < 16 → Good (idWrite s p x)
-  unfolding idWrite
+  written : (p x : ℕ) → p < 16 → Good (id_write s p x)
+  unfolding id_write
   written p x h = either s.command (λ _. either (eqb p s.port) (λ _. commanded x) (λ _. g)) (λ c. waited p x h c)
 
-  read : (p b : ℕ) → Good (idAfterRead s p b)
-  unfolding idAfterRead
-  read p b = either (idDrives s p) (λ _. either (eqb b (idBit s p)) (λ _. loads) (λ _. waits refl refl refl g.labelled)) (λ _. g)
+  read : (p b : ℕ) → Good (id_after_read s p b)
+  unfolding id_after_read
+  read p b = either (id_drives s p) (λ _. either (eqb b (id_bit s p)) (λ _. loads) (λ _. waits refl refl refl g.labelled)) (λ _. g)
 
-pub every-step-keeps-soundness : Every-step-keeps-soundness
-unfolding idSound
-every-step-keeps-soundness = record {
-  powerOn = λ ws. refl;
-  writes = λ s p x h e. sound (idWrite s p x) (written s (good s e) p x h);
-  reads = λ s p b e. sound (idAfterRead s p b) (read s (good s e) p b);
+pub every_step_keeps_soundness_lem : EveryStepKeepsSoundness
+unfolding id_sound
+every_step_keeps_soundness_lem = record {
+  power_on = λ ws. refl;
+  writes = λ s p x h e. sound (id_write s p x) (written s (good s e) p x h);
+  reads = λ s p b e. sound (id_after_read s p b) (read s (good s e) p b);
 }

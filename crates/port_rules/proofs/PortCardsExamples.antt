@@ -2,21 +2,21 @@
 use mathlib.Core.Path.{◌≡◌, refl}
 use mathlib.Core.Bool.{true, false}
 use mathlib.Core.List.{[], ◌∷◌}
-use Rattle.port_rules.specs.Card.{moved, loaded, idFresh, idDrives, idBit}
-use Rattle.port_rules.specs.Sound.{idSound}
-use Rattle.port_rules.specs.Gathered.{portBit, allSound}
+use Rattle.port_rules.specs.Card.{moved, loaded, id_fresh, id_drives, id_bit}
+use Rattle.port_rules.specs.Sound.{id_sound}
+use Rattle.port_rules.specs.Gathered.{port_bit, all_sound}
 
 -- an undriven bus bit reads 1
-undriven : portBit 1 [] ≡ 1
-unfolding portBit
+undriven : port_bit 1 [] ≡ 1
+unfolding port_bit
 undriven = refl
 
 -- at port 110h one card drives a 1, another a 0, which wins
-driven : portBit 1 (loaded 0x8000 (moved true 1 0 (idFresh [])) ∷ moved true 1 0 (idFresh []) ∷ []) ≡ 0
-unfolding portBit idBit idDrives
+driven : port_bit 1 (loaded 0x8000 (moved true 1 0 (id_fresh [])) ∷ moved true 1 0 (id_fresh []) ∷ []) ≡ 0
+unfolding port_bit id_bit id_drives
 driven = refl
 
 -- a card in ID_CMD has a port
-unsound : allSound (idFresh [] ∷ moved true 16 0 (idFresh []) ∷ []) ≡ false
-unfolding allSound idSound
+unsound : all_sound (id_fresh [] ∷ moved true 16 0 (id_fresh []) ∷ []) ≡ false
+unfolding all_sound id_sound
 unsound = refl

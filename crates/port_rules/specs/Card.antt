@@ -2,7 +2,7 @@
 -- Assumes nothing.
 use Rattle.std.specs.Prelude.{ℕ, ◌+◌, ◌-◌, ◌*◌, ◌/◌, ◌%◌, Bool, true, false, cond, ◌&&◌, List, ltb, eqb, get_or}
 use Rattle.port_rules.specs.declared.IdState.{IdState}
-use Rattle.port_rules.specs.Sequence.{idByte}
+use Rattle.port_rules.specs.Sequence.{id_byte}
 
 -- The state with another standing (ID_CMD or not, port, place in the sequence), tag, data register, or address configuration.
 abbrev pub moved : Bool → ℕ → ℕ → IdState → IdState
@@ -25,17 +25,17 @@ waiting s = moved false 16 0 s
 abbrev pub restarted : Bool → List ℕ → IdState
 restarted d ws = record { command = false; port = 16; at = 0; tag = 0; shift = 0; address = get_or ws 8 0; active = false; due = d; words = ws }
 
-abbrev pub idFresh : List ℕ → IdState
-idFresh ws = restarted false ws
+abbrev pub id_fresh : List ℕ → IdState
+id_fresh ws = restarted false ws
 
 -- the byte that a card at place i waits for
 unfoldable pub expected : ℕ → ℕ → Bool
-expected i x = cond (ltb i 255) (eqb x (idByte i)) false
+expected i x = cond (ltb i 255) (eqb x (id_byte i)) false
 
 -- A byte in ID_WAIT. A zero at any 1x0h makes that the port and restarts the sequence; another byte at another port is ignored.
 -- The 255th byte leads to ID_CMD. A wrong byte restarts the wait for FFh and isn't itself counted.
-unfoldable pub idWait : IdState → ℕ → ℕ → IdState
-idWait s p x =
+unfoldable pub id_wait : IdState → ℕ → ℕ → IdState
+id_wait s p x =
     cond (eqb x 0) (moved s.command p 0 s)
     (cond (eqb p s.port)
     (cond (expected s.at x)
@@ -55,8 +55,8 @@ based a b = a / 32 * 32 + b
 --   D8 to DF  test: a card whose tag is not n goes to ID_WAIT
 --   E0 to FE  activate at that base, and go to ID_WAIT
 --   FF        activate at the preconfigured base, and go to ID_WAIT
-unfoldable pub idCommand : IdState → ℕ → IdState
-idCommand s x =
+unfoldable pub id_command : IdState → ℕ → IdState
+id_command s x =
     cond (ltb x 0x80) (waiting s)
     (cond (ltb x 0xC0) (loaded (get_or s.words (x - 0x80) 0) s)
     (cond (ltb x 0xD0) (restarted true s.words)
@@ -66,20 +66,20 @@ idCommand s x =
     (activated (based s.address (x - 0xE0)) (waiting s)))))))
 
 -- A card in ID_CMD ignores other ports.
-unfoldable pub idWrite : IdState → ℕ → ℕ → IdState
-idWrite s p x = cond s.command (cond (eqb p s.port) (idCommand s x) s) (idWait s p x)
+unfoldable pub id_write : IdState → ℕ → ℕ → IdState
+id_write s p x = cond s.command (cond (eqb p s.port) (id_command s x) s) (id_wait s p x)
 
 -- A card in ID_CMD takes part in reads of its port; a tagged one does not.
-unfoldable pub idDrives : IdState → ℕ → Bool
-idDrives s p = s.command && eqb p s.port && eqb s.tag 0
+unfoldable pub id_drives : IdState → ℕ → Bool
+id_drives s p = s.command && eqb p s.port && eqb s.tag 0
 
 -- It drives bit 15 of the EEPROM Data register; an undriven bus bit reads 1.
-unfoldable pub idBit : IdState → ℕ → ℕ
-idBit s p = cond (idDrives s p) (s.shift / 0x8000) 1
+unfoldable pub id_bit : IdState → ℕ → ℕ
+id_bit s p = cond (id_drives s p) (s.shift / 0x8000) 1
 
 -- The register is shifted left one bit; a card whose bit is not the bus's returns to ID_WAIT.
-unfoldable pub idAfterRead : IdState → ℕ → ℕ → IdState
-idAfterRead s p bus =
-    cond (idDrives s p)
-    (cond (eqb bus (idBit s p)) (loaded (s.shift * 2 % 0x10000) s) (waiting (loaded (s.shift * 2 % 0x10000) s)))
+unfoldable pub id_after_read : IdState → ℕ → ℕ → IdState
+id_after_read s p bus =
+    cond (id_drives s p)
+    (cond (eqb bus (id_bit s p)) (loaded (s.shift * 2 % 0x10000) s) (waiting (loaded (s.shift * 2 % 0x10000) s)))
     s

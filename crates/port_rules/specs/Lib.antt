@@ -10,5 +10,5 @@ pub mod Port
 pub mod Search
 pub mod Calls
 pub mod Lent
-pub mod Contracts
+pub mod PortContracts
 pub mod Leads

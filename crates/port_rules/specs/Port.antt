@@ -2,10 +2,10 @@
 -- Assumes nothing.
 use Rattle.std.specs.Prelude.{ℕ, List, [], ◌∷◌, ◌++◌, map, take, drop}
 use Rattle.port_rules.specs.declared.IdState.{IdState}
-use Rattle.port_rules.specs.Card.{idWrite, idAfterRead}
+use Rattle.port_rules.specs.Card.{id_write, id_after_read}
 use Rattle.port_rules.specs.declared.Bus.{Bus}
 -- the bit that the bus carries
-unfoldable pub use Rattle.port_rules.specs.Gathered.{portBit}
+unfoldable pub use Rattle.port_rules.specs.Gathered.{port_bit}
 
 -- the cards that are there, and what stands in the places past them
 abbrev pub held : Bus → List IdState
@@ -19,12 +19,12 @@ abbrev pub seated : List IdState → Bus → Bus
 seated cards b = record { cards = cards ++ rest b; count = b.count }
 
 -- Each card sees a byte that is written.
-unfoldable pub portWrite : ℕ → ℕ → List IdState → List IdState
-portWrite p x cards = map (λ s. idWrite s p x) cards
+unfoldable pub port_write : ℕ → ℕ → List IdState → List IdState
+port_write p x cards = map (λ s. id_write s p x) cards
 
 -- A read: each card compares the bit that it drove with the bus's.
-unfoldable pub portRead : ℕ → List IdState → List IdState
-portRead p cards = map (λ s. idAfterRead s p (portBit p cards)) cards
+unfoldable pub port_read : ℕ → List IdState → List IdState
+port_read p cards = map (λ s. id_after_read s p (port_bit p cards)) cards
 
 pub data Access : Type 0 where
   write : ℕ → Access
@@ -33,11 +33,11 @@ pub data Access : Type 0 where
 -- What the host reads (at a write nothing, 0), and the cards after.
 unfoldable pub value : ℕ → Access → List IdState → ℕ
 value p (write x) cards = 0
-value p read cards = portBit p cards
+value p read cards = port_bit p cards
 
 unfoldable pub after : ℕ → Access → List IdState → List IdState
-after p (write x) cards = portWrite p x cards
-after p read cards = portRead p cards
+after p (write x) cards = port_write p x cards
+after p read cards = port_read p cards
 
 -- A host's part: accesses, each chosen by what was read so far, and in the end an answer.
 pub data Talk (A : Type 0) : Type 0 where

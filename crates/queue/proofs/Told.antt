@@ -11,12 +11,12 @@ use lib.ListN.{length, take, drop, get_or, set, replicate, length-append, length
 use lib.Seq.{take-take, take-length}
 use Rattle.store.specs.Store as store
 use Rattle.store.specs.Store.{frames, begun, len_of, part}
-use Rattle.store.proofs.Laws.{part-cons}
+use Rattle.store.proofs.Laws.{part_cons}
 use Rattle.bits.specs.Bits.{has}
-use Rattle.transmit_rules.specs.Leave.{others, toldOf, oldestWanted}
+use Rattle.transmit_rules.specs.Leave.{others, told_of, oldest_wanted}
 use Rattle.transmit_rules.specs.Write.{sized}
-use Rattle.transmit_rules.specs.QueueSound.{allSized}
-use Rattle.transmit_rules.specs.QueueView.{txArea, packetsOf, Holds, Tells}
+use Rattle.transmit_rules.specs.QueueSound.{all_sized}
+use Rattle.transmit_rules.specs.QueueView.{tx_area, packets_of, Holds, Tells}
 use Rattle.transmit_rules.specs.declared.Fifo.{Fifo}
 use Rattle.bits.proofs.Tests.{both}
 use Rattle.transmit_rules.proofs.Parts.{part_length}
@@ -26,8 +26,8 @@ use Rattle.queue.proofs.Leave.{oldest-room}
 -- ---- the bytes, one after another
 
 -- i bytes of s stand before the rest of d
-pub front-more : (s d : List ℕ) (i : ℕ) → i < length s → i < length d → set (take i s ++ drop i d) i (get_or s i 0) ≡ take (i + 1) s ++ drop (i + 1) d
-front-more s d i hs hd = rw (add-one i) (go s d i hs hd)
+pub front_more : (s d : List ℕ) (i : ℕ) → i < length s → i < length d → set (take i s ++ drop i d) i (get_or s i 0) ≡ take (i + 1) s ++ drop (i + 1) d
+front_more s d i hs hd = rw (add-one i) (go s d i hs hd)
   where
     go : (s d : List ℕ) (i : ℕ) → i < length s → i < length d → set (take i s ++ drop i d) i (get_or s i 0) ≡ take (suc i) s ++ drop (suc i) d
     go [] d i hs hd = absurd (omega arith)
@@ -44,10 +44,10 @@ pub length-zeros : (k : ℕ) → length {A = ℕ} (replicate k 0) ≡ k
 length-zeros zero = refl
 length-zeros (suc k) = ap suc (length-zeros k)
 
-pub getD-padded : (l : List ℕ) (k i : ℕ) → get_or (l ++ replicate k 0) i 0 ≡ get_or l i 0
-getD-padded [] k i = zeros k i
-getD-padded (x ∷ l) k zero = refl
-getD-padded (x ∷ l) k (suc i) = getD-padded l k i
+pub getD_padded : (l : List ℕ) (k i : ℕ) → get_or (l ++ replicate k 0) i 0 ≡ get_or l i 0
+getD_padded [] k i = zeros k i
+getD_padded (x ∷ l) k zero = refl
+getD_padded (x ∷ l) k (suc i) = getD_padded l k i
 
 pub get_d_past : (l : List ℕ) (i : ℕ) → length l ≤ i → get_or l i 0 ≡ 0
 get_d_past [] i h = refl
@@ -71,16 +71,16 @@ pub told_more : (ram out₀ : List ℕ) (base len n i : ℕ) (out : List ℕ) (b
 told_more ram out₀ base len n i out b h k l j e T =
     let all : List ℕ = part base len ram ++ replicate (n - len) 0 in
     let len-all : length all ≡ n = padded-length ram base len n h k in
-    let d : b ≡ get_or all i 0 = e ∙ sym (getD-padded (part base len ram) (n - len) i) in
+    let d : b ≡ get_or all i 0 = e ∙ sym (getD_padded (part base len ram) (n - len) i) in
     record {
       few = omega arith;
       long = length-set out i b ∙ T.long;
-      front = ap₂ (λ (o : List ℕ) (x : ℕ). set o i x) T.front d ∙ front-more all out₀ i (omega arith) (omega arith);
+      front = ap₂ (λ (o : List ℕ) (x : ℕ). set o i x) T.front d ∙ front_more all out₀ i (omega arith) (omega arith);
     }
 
-pub told-all : (ram out₀ : List ℕ) (base len n i : ℕ) (out : List ℕ) → base + len ≤ length ram → len ≤ n → n ≤ i
+pub told_all : (ram out₀ : List ℕ) (base len n i : ℕ) (out : List ℕ) → base + len ≤ length ram → len ≤ n → n ≤ i
     → Told ram out₀ base len n i out → out ≡ (part base len ram ++ replicate (n - len) 0) ++ drop n out₀
-told-all ram out₀ base len n i out h k j T =
+told_all ram out₀ base len n i out h k j T =
     let all : List ℕ = part base len ram ++ replicate (n - len) 0 in
     let len-all : length all ≡ n = padded-length ram base len n h k in
     let e : i ≡ n = omega (arith, T.few) in
@@ -89,25 +89,25 @@ told-all ram out₀ base len n i out h k j T =
 
 -- ---- the oldest packet
 
-pub first-shape : (size n : ℕ) (ram dir : List ℕ) → store.Sound (txArea size) n ram dir → 0 < n
-    → packetsOf size n ram dir ≡ begun (get_or dir 768 0 / 2048) (part (8192 - size) (len_of (get_or dir 768 0)) ram) ∷ others (packetsOf size n ram dir)
+pub first_shape : (size n : ℕ) (ram dir : List ℕ) → store.Sound (tx_area size) n ram dir → 0 < n
+    → packets_of size n ram dir ≡ begun (get_or dir 768 0 / 2048) (part (8192 - size) (len_of (get_or dir 768 0)) ram) ∷ others (packets_of size n ram dir)
 unfolding frames others
-first-shape size zero ram dir S h = absurd (omega arith)
-first-shape size (suc k) ram dir S h =
-    let dirs : 768 + 342 ≤ length dir = S.in-dir in
+first_shape size zero ram dir S h = absurd (omega arith)
+first_shape size (suc k) ram dir S h =
+    let dirs : 768 + 342 ≤ length dir = S.in_dir in
     let few : suc k ≤ 342 = S.few in
     let w : ℕ = get_or dir 768 0 in
-    let cons : part 768 (suc k) dir ≡ w ∷ part 769 k dir = part-cons dir 768 k (omega arith) in
+    let cons : part 768 (suc k) dir ≡ w ∷ part 769 k dir = part_cons dir 768 k (omega arith) in
     rw (cons, take-take (len_of w) size (drop (8192 - size) ram) (omega (arith, oldest-room size (suc k) ram dir S h, S.room)))
 
 pub first_short : (size : ℕ) (f : Fifo) (ram dir : List ℕ) → Holds size f ram dir → 0 < f.packets → (len_of (get_or dir 768 0) ≤ 1792) × (8192 - size + len_of (get_or dir 768 0) ≤ length ram)
-unfolding allSized
+unfolding all_sized
 first_short size f ram dir H some =
     let w : ℕ = get_or dir 768 0 in
     let S = H.packed.lies in
-    let inside : 8192 - size + len_of w ≤ length ram = omega (arith, oldest-room size f.packets ram dir S some, S.room, S.in-ram) in
+    let inside : 8192 - size + len_of w ≤ length ram = omega (arith, oldest-room size f.packets ram dir S some, S.room, S.in_ram) in
     let e : length (part (8192 - size) (len_of w) ram) ≡ len_of w = part_length ram (8192 - size) (len_of w) inside in
-    let g = both (sized (length (part (8192 - size) (len_of w) ram))) (allSized (others (packetsOf size f.packets ram dir))) (rw (first-shape size f.packets ram dir S some) at (sizes size f ram dir H)) in
+    let g = both (sized (length (part (8192 - size) (len_of w) ram))) (all_sized (others (packets_of size f.packets ram dir))) (rw (first_shape size f.packets ram dir S some) at (sizes size f ram dir H)) in
     let l = both (leb 6 (length (part (8192 - size) (len_of w) ram))) (leb (length (part (8192 - size) (len_of w) ram)) 1792) g.0 in
     (rw e at (leb-true (length (part (8192 - size) (len_of w) ram)) 1792 l.1), inside)
 
@@ -115,8 +115,8 @@ first_short size f ram dir H some =
 pub tells : (size n : ℕ) (f : Fifo) (ram dir out out' : List ℕ) → Holds size f ram dir → 0 < f.packets
     → n ≡ len_of (get_or dir 768 0) + cond (has 4 (get_or dir 768 0 / 2048)) 0 (60 - len_of (get_or dir 768 0))
     → out' ≡ (part (8192 - size) (len_of (get_or dir 768 0)) ram ++ replicate (n - len_of (get_or dir 768 0)) 0) ++ drop n out
-    → Tells n out out' (toldOf (packetsOf size f.packets ram dir))
-unfolding toldOf
+    → Tells n out out' (told_of (packets_of size f.packets ram dir))
+unfolding told_of
 tells size n f ram dir out out' H some e d =
     let w : ℕ = get_or dir 768 0 in
     let S = H.packed.lies in
@@ -124,8 +124,8 @@ tells size n f ram dir out out' H some e d =
     let l : length (part (8192 - size) (len_of w) ram) ≡ len_of w = part_length ram (8192 - size) (len_of w) inside in
     let pad : ℕ = cond (has 4 (w / 2048)) 0 (60 - len_of w) in
     let p : n - len_of w ≡ pad = omega arith in
-    let t : toldOf (packetsOf size f.packets ram dir) ≡ part (8192 - size) (len_of w) ram ++ replicate (n - len_of w) 0 =
-    ap toldOf (first-shape size f.packets ram dir S some)
+    let t : told_of (packets_of size f.packets ram dir) ≡ part (8192 - size) (len_of w) ram ++ replicate (n - len_of w) 0 =
+    ap told_of (first_shape size f.packets ram dir S some)
     ∙ ap (λ (i : ℕ). part (8192 - size) (len_of w) ram ++ replicate (cond (has 4 (w / 2048)) 0 (60 - i)) 0) l
     ∙ ap (λ (i : ℕ). part (8192 - size) (len_of w) ram ++ replicate i 0) (sym p) in
     record {
@@ -133,14 +133,14 @@ tells size n f ram dir out out' H some e d =
       says = d ∙ ap (λ (x : List ℕ). x ++ drop n out) (sym t);
     }
 
-pub told-bound : (w n : ℕ) → n ≡ w % 2048 + cond (has 4 (w / 2048)) 0 (60 - w % 2048) → w % 2048 ≤ 1792 → (w % 2048 ≤ n) × (n ≤ 1792)
-told-bound w n e h = bound (has 4 (w / 2048)) e
+pub told_bound : (w n : ℕ) → n ≡ w % 2048 + cond (has 4 (w / 2048)) 0 (60 - w % 2048) → w % 2048 ≤ 1792 → (w % 2048 ≤ n) × (n ≤ 1792)
+told_bound w n e h = bound (has 4 (w / 2048)) e
   where
     bound : (t : Bool) → n ≡ w % 2048 + cond t 0 (60 - w % 2048) → (w % 2048 ≤ n) × (n ≤ 1792)
     bound true d = (omega arith, omega arith)
     bound false d = (omega arith, omega arith)
 
 -- whether completion is wanted of it
-pub wants : (size n : ℕ) (ram dir : List ℕ) → store.Sound (txArea size) n ram dir → 0 < n → has 16 (get_or dir 768 0 / 2048) ≡ oldestWanted (packetsOf size n ram dir)
-unfolding oldestWanted
-wants size n ram dir S h = sym (ap oldestWanted (first-shape size n ram dir S h))
+pub wants : (size n : ℕ) (ram dir : List ℕ) → store.Sound (tx_area size) n ram dir → 0 < n → has 16 (get_or dir 768 0 / 2048) ≡ oldest_wanted (packets_of size n ram dir)
+unfolding oldest_wanted
+wants size n ram dir S h = sym (ap oldest_wanted (first_shape size n ram dir S h))

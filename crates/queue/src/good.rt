@@ -2,14 +2,14 @@
 ghost use Rattle.std.specs.Prelude.{◌≡◌, ◌&&◌, ◌||◌, ◌+◌, ◌*◌, ◌%◌, ◌≤◌, ◌<◌, ltb, eqb, length, get_or};
 ghost use Rattle.store.specs.Store.{round4, part};
 ghost use Rattle.transmit_rules.specs.Write.{sized};
-ghost use Rattle.transmit_rules.specs.QueueView.{goodWords};
+ghost use Rattle.transmit_rules.specs.QueueView.{good_words};
 
 use crate::{FIRST, LONGEST};
 
 // Each of the n packets has a good length.
 pub fn good_words(dir: &[u16], n: usize) -> bool
     requires { (768 + n ≤ length dir.now) × (n < 65536) }
-    ensures { result ≡ goodWords (part 768 n dir.now) }
+    ensures { result ≡ good_words (part 768 n dir.now) }
 {
     let mut good = true;
     let mut i: usize = 0;

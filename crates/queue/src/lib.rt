@@ -1,7 +1,7 @@
 // The transmit FIFO's memory: the packets written whole, and the packet being written.
 ghost use Rattle.std.specs.Prelude.{◌≡◌, ◌≤◌, length};
 ghost use Rattle.transmit_rules.specs.Write.{put};
-ghost use Rattle.transmit_rules.specs.QueueView.{queueOf, Holds, Turns, soundFifo};
+ghost use Rattle.transmit_rules.specs.QueueView.{queue_of, Holds, Turns, sound_fifo};
 
 use transmit_rules::Fifo;
 // The packets lie in the last `size` bytes of `ram`, with a word for each in `dir` from `FIRST` on.
@@ -25,7 +25,7 @@ const LONGEST: u16 = 1792;
 // The test that a call makes of what it is handed.
 pub fn fifo_sound(ram: &[u8], dir: &[u16], size: usize, f: Fifo) -> bool
     requires { (size ≤ 4096) × (8192 ≤ length ram.now) × (1110 ≤ length dir.now) }
-    ensures { result ≡ soundFifo size f ram.now dir.now }
+    ensures { result ≡ sound_fifo size f ram.now dir.now }
 {
     let n = f.packets;
     let k = f.words;
@@ -47,7 +47,7 @@ pub fn fifo_sound(ram: &[u8], dir: &[u16], size: usize, f: Fifo) -> bool
 // The host writes a word.
 pub fn put_word(ram: &mut [u8], dir: &mut [u16], size: usize, f: Fifo, v: u16) -> Fifo
     requires { Holds size f ram.old dir.old }
-    ensures { Turns size result ram.old dir.old ram.new dir.new (put size v (queueOf size f ram.old dir.old)) }
+    ensures { Turns size result ram.old dir.old ram.new dir.new (put size v (queue_of size f ram.old dir.old)) }
 {
     let n = f.packets;
     let k = f.words;

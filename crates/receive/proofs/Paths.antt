@@ -8,52 +8,52 @@ use borrow.Author.Tests.{leb-false, le-leb, lt-leb}
 use lib.Dec.{leb}
 use lib.ListN.{length, get_or, length-append}
 use Rattle.store.specs.Store as store
-use Rattle.store.specs.Store.{atNewest, round4, roomIn, headed, begun}
-use Rattle.store.proofs.Laws.{at_snoc, newest-snoc, older-snoc, snoc-not}
-use Rattle.store.proofs.Lift.{Last, last, becomes-same, after}
+use Rattle.store.specs.Store.{at_newest, round4, room_in, headed, begun}
+use Rattle.store.proofs.Laws.{at_snoc, newest_snoc, older_snoc, snoc_not}
+use Rattle.store.proofs.Lift.{Last, last, becomes_same, after}
 use Rattle.receive_rules.specs.Frame.{coming, Frame, overran, room}
-use Rattle.receive_rules.specs.Reading.{rxFree}
+use Rattle.receive_rules.specs.Reading.{rx_free}
 use Rattle.receive_rules.specs.Wire.{fresh, longer, fits, full, takes, ending, ends}
-use Rattle.receive_rules.specs.Sound.{inOrder}
-use Rattle.receive_rules.specs.View.{state_of, told, rxArea, framesOf, Turns}
+use Rattle.receive_rules.specs.Sound.{in_order}
+use Rattle.receive_rules.specs.View.{state_of, told, rx_area, frames_of, Turns}
 use Rattle.bits.proofs.Tests.{neither}
 use Rattle.receive_rules.proofs.Laws.{overran-word, room-told, room_snoc, map_snoc, lift}
 use Rattle.receive_rules.proofs.Taking.{newest-coming, takes_none, takes-marks, takes-longer}
-use Rattle.receive.proofs.Free.{free-shared, free-marked}
+use Rattle.receive.proofs.Free.{free_shared, free-marked}
 
 -- ---- the frames, told, are the others and the newest
 
-module _ (size n w : ℕ) (ram dir : List ℕ) (L : Last (rxArea size) n w ram dir) where
+module _ (size n w : ℕ) (ram dir : List ℕ) (L : Last (rx_area size) n w ram dir) where
   rest : List Frame
   rest = map told L.others
 
   tip : Frame
   tip = record { bytes = L.bytes; state = state_of (w / 2048) }
 
-  shown : framesOf size n ram dir ≡ rest ++ (tip ∷ [])
+  shown : frames_of size n ram dir ≡ rest ++ (tip ∷ [])
   unfolding rest tip
   shown = ap (λ (l : List store.Frame). map told l) L.shape ∙ map_snoc L.others _
 
-  changed : (g : Frame → Frame) → atNewest g (framesOf size n ram dir) ≡ rest ++ (g tip ∷ [])
-  changed g = ap (λ (l : List Frame). atNewest g l) shown ∙ at_snoc g rest tip
+  changed : (g : Frame → Frame) → at_newest g (frames_of size n ram dir) ≡ rest ++ (g tip ∷ [])
+  changed g = ap (λ (l : List Frame). at_newest g l) shown ∙ at_snoc g rest tip
 
-  told-changed : (g : store.Frame → store.Frame) → map told (atNewest g (store.view (rxArea size) n ram dir)) ≡ rest ++ (told (g (begun (w / 2048) L.bytes)) ∷ [])
+  told_changed : (g : store.Frame → store.Frame) → map told (at_newest g (store.view (rx_area size) n ram dir)) ≡ rest ++ (told (g (begun (w / 2048) L.bytes)) ∷ [])
   unfolding rest
-  told-changed g =
-      ap (λ (l : List store.Frame). map told (atNewest g l)) L.shape ∙ ap (λ (l : List store.Frame). map told l) (at_snoc g L.others _) ∙ map_snoc L.others _
+  told_changed g =
+      ap (λ (l : List store.Frame). map told (at_newest g l)) L.shape ∙ ap (λ (l : List store.Frame). map told l) (at_snoc g L.others _) ∙ map_snoc L.others _
 
   -- where g makes the newest the frame f, the frames are the others and f
-  becomes : (g : Frame → Frame) (f : Frame) → g tip ≡ f → rest ++ (f ∷ []) ≡ atNewest g (framesOf size n ram dir)
+  becomes : (g : Frame → Frame) (f : Frame) → g tip ≡ f → rest ++ (f ∷ []) ≡ at_newest g (frames_of size n ram dir)
   becomes g f e = sym (changed g ∙ ap (λ (x : Frame). rest ++ (x ∷ [])) e)
 
   -- the room with one byte more, and whether it fits
-  room-longer : (b : ℕ) → room (atNewest (longer b) (framesOf size n ram dir)) ≡ roomIn L.others + (w % 2048 + 4) / 4 * 4
+  room-longer : (b : ℕ) → room (at_newest (longer b) (frames_of size n ram dir)) ≡ room_in L.others + (w % 2048 + 4) / 4 * 4
   unfolding rest tip
   room-longer b =
       let e : w % 2048 + 1 + 3 ≡ w % 2048 + 4 = omega arith in
       rw (changed (longer b), room_snoc rest (longer b tip), room-told L.others, length-append L.bytes (b ∷ []), L.len, e)
 
-  fitting : (b : ℕ) → fits size b (framesOf size n ram dir) ≡ leb (roomIn L.others + (w % 2048 + 4) / 4 * 4) size
+  fitting : (b : ℕ) → fits size b (frames_of size n ram dir) ≡ leb (room_in L.others + (w % 2048 + 4) / 4 * 4) size
   fitting b = ap (λ (m : ℕ). leb m size) (room-longer b)
 
   -- the test before a byte is stored
@@ -61,110 +61,110 @@ module _ (size n w : ℕ) (ram dir : List ℕ) (L : Last (rxArea size) n w ram d
   unfolding tip
   closed t h = rw (overran-word w, L.len) h
 
-  dropped : (b : ℕ) (space : Bool) → (leb 49152 w || leb 1792 (w % 2048)) ≡ true → map told (store.view (rxArea size) n ram dir) ≡ atNewest (takes b space) (framesOf size n ram dir)
+  dropped : (b : ℕ) (space : Bool) → (leb 49152 w || leb 1792 (w % 2048)) ≡ true → map told (store.view (rx_area size) n ram dir) ≡ at_newest (takes b space) (frames_of size n ram dir)
   dropped b space t = shown ∙ becomes (takes b space) tip (takes_none b space tip (closed true t))
 
-  marks : (b : ℕ) → inOrder true (framesOf size n ram dir) ≡ true → (leb 49152 w || leb 1792 (w % 2048)) ≡ false
-      → map told (atNewest (headed 24) (store.view (rxArea size) n ram dir)) ≡ atNewest (takes b false) (framesOf size n ram dir)
+  marks : (b : ℕ) → in_order true (frames_of size n ram dir) ≡ true → (leb 49152 w || leb 1792 (w % 2048)) ≡ false
+      → map told (at_newest (headed 24) (store.view (rx_area size) n ram dir)) ≡ at_newest (takes b false) (frames_of size n ram dir)
   unfolding tip state_of
   marks b o t =
-      told-changed (headed 24)
+      told_changed (headed 24)
       ∙ becomes (takes b false) (record { bytes = tip.bytes; state = coming true }) (takes-marks b tip (newest-coming rest tip (rw shown at o)) (closed false t))
 
   taken : (b : ℕ) → (leb 49152 w || leb 1792 (w % 2048)) ≡ false
-      → map told (atNewest (store.extended b) (store.view (rxArea size) n ram dir)) ≡ atNewest (takes b true) (framesOf size n ram dir)
+      → map told (at_newest (store.extended b) (store.view (rx_area size) n ram dir)) ≡ at_newest (takes b true) (frames_of size n ram dir)
   unfolding tip
-  taken b t = told-changed (store.extended b) ∙ becomes (takes b true) (longer b tip) (takes-longer b tip (closed false t))
+  taken b t = told_changed (store.extended b) ∙ becomes (takes b true) (longer b tip) (takes-longer b tip (closed false t))
 
   room-taken : (b : ℕ) → (leb 49152 w || leb 1792 (w % 2048)) ≡ false
-      → room (atNewest (takes b true) (framesOf size n ram dir)) ≡ roomIn L.others + (w % 2048 + 4) / 4 * 4
+      → room (at_newest (takes b true) (frames_of size n ram dir)) ≡ room_in L.others + (w % 2048 + 4) / 4 * 4
   room-taken b t = ap room (changed (takes b true) ∙ becomes (longer b) (takes b true tip) (sym (takes-longer b tip (closed false t)))) ∙ room-longer b
 
   ended : (h : ℕ) (check alignment : Bool) → state_of h ≡ ending (leb 49152 w) (w % 2048) check alignment
-      → map told (atNewest (headed h) (store.view (rxArea size) n ram dir)) ≡ atNewest (ends check alignment) (framesOf size n ram dir)
+      → map told (at_newest (headed h) (store.view (rx_area size) n ram dir)) ≡ at_newest (ends check alignment) (frames_of size n ram dir)
   unfolding tip
   ended h check alignment s =
-      told-changed (headed h) ∙ becomes (ends check alignment) (record { bytes = tip.bytes; state = state_of h }) (rw (overran-word w, L.len, s))
+      told_changed (headed h) ∙ becomes (ends check alignment) (record { bytes = tip.bytes; state = state_of h }) (rw (overran-word w, L.len, s))
 
   -- where the next byte goes
-  opening : w % 2048 < 1792 → roomIn L.others + (w % 2048 + 4) / 4 * 4 ≤ size → store.Open (rxArea size) (roomIn L.others + w % 2048) 1 (store.view (rxArea size) n ram dir)
+  opening : w % 2048 < 1792 → room_in L.others + (w % 2048 + 4) / 4 * 4 ≤ size → store.Open (rx_area size) (room_in L.others + w % 2048) 1 (store.view (rx_area size) n ram dir)
   opening short space =
       let f : store.Frame = begun (w / 2048) L.bytes in
-      let e : length (store.newest (store.view (rxArea size) n ram dir)) ≡ w % 2048 = rw (L.shape, newest-snoc L.others f) L.len in
-      let d : roomIn (store.older (store.view (rxArea size) n ram dir)) ≡ roomIn L.others = rw (L.shape, older-snoc L.others f) in
-      record { some = rw L.shape (snoc-not L.others f); short = omega arith; here = omega arith; space = rw (d, e) (omega arith) }
+      let e : length (store.newest (store.view (rx_area size) n ram dir)) ≡ w % 2048 = rw (L.shape, newest_snoc L.others f) L.len in
+      let d : room_in (store.older (store.view (rx_area size) n ram dir)) ≡ room_in L.others = rw (L.shape, older_snoc L.others f) in
+      record { some = rw L.shape (snoc_not L.others f); short = omega arith; here = omega arith; space = rw (d, e) (omega arith) }
 
-pub newest-of : (size n : ℕ) (ram dir : List ℕ) → store.Sound (rxArea size) n ram dir → 0 < n → Last (rxArea size) n (get_or dir (n - 1) 0) ram dir
-newest-of size n ram dir S h =
+pub newest_of : (size n : ℕ) (ram dir : List ℕ) → store.Sound (rx_area size) n ram dir → 0 < n → Last (rx_area size) n (get_or dir (n - 1) 0) ram dir
+newest_of size n ram dir S h =
     let e : 0 + n - 1 ≡ n - 1 = omega arith in
-    rw e at (last (rxArea size) n ram dir S h)
+    rw e at (last (rx_area size) n ram dir S h)
 
 -- ---- a byte is dropped, marks the frame, or is taken: the three ways of the code, each with RX Free after it
 
-module _ (size n b free : ℕ) (ram dir : List ℕ) (S : store.Sound (rxArea size) n ram dir) (h : 0 < n) (c : free ≡ rxFree size (framesOf size n ram dir)) where
+module _ (size n b free : ℕ) (ram dir : List ℕ) (S : store.Sound (rx_area size) n ram dir) (h : 0 < n) (c : free ≡ rx_free size (frames_of size n ram dir)) where
   abbrev after-byte : List Frame
-  after-byte = atNewest (takes b (fits size b (framesOf size n ram dir))) (framesOf size n ram dir)
+  after-byte = at_newest (takes b (fits size b (frames_of size n ram dir))) (frames_of size n ram dir)
 
-  pub byte-dropped : (leb 49152 (get_or dir (n - 1) 0) || leb 1792 (get_or dir (n - 1) 0 % 2048)) ≡ true → Turns size ram dir ram dir n after-byte × (free ≡ rxFree size after-byte)
+  pub byte-dropped : (leb 49152 (get_or dir (n - 1) 0) || leb 1792 (get_or dir (n - 1) 0 % 2048)) ≡ true → Turns size ram dir ram dir n after-byte × (free ≡ rx_free size after-byte)
   byte-dropped t =
-      let e = dropped size n (get_or dir (n - 1) 0) ram dir (newest-of size n ram dir S h) b (fits size b (framesOf size n ram dir)) t in
-      (lift size ram dir ram dir n _ _ (becomes-same (rxArea size) n ram dir S) e, c ∙ ap (rxFree size) e)
+      let e = dropped size n (get_or dir (n - 1) 0) ram dir (newest_of size n ram dir S h) b (fits size b (frames_of size n ram dir)) t in
+      (lift size ram dir ram dir n _ _ (becomes_same (rx_area size) n ram dir S) e, c ∙ ap (rx_free size) e)
 
   -- before the newest frame there are `older` bytes
   module _ (older : ℕ) (u : older ≡ size - free - round4 (get_or dir (n - 1) 0 % 2048)) (t : (leb 49152 (get_or dir (n - 1) 0) || leb 1792 (get_or dir (n - 1) 0 % 2048)) ≡ false) where
-    older-room : older ≡ roomIn (newest-of size n ram dir S h).others
-    older-room = omega (arith, (newest-of size n ram dir S h).sum, free-shared size n free ram dir S c)
+    older-room : older ≡ room_in (newest_of size n ram dir S h).others
+    older-room = omega (arith, (newest_of size n ram dir S h).sum, free_shared size n free ram dir S c)
 
-    pub byte-marks : (ram' dir' : List ℕ) → inOrder true (framesOf size n ram dir) ≡ true → size < older + (get_or dir (n - 1) 0 % 2048 + 4) / 4 * 4
-        → store.Becomes (rxArea size) ram dir ram' dir' n (atNewest (headed 24) (store.view (rxArea size) n ram dir))
-        → Turns size ram dir ram' dir' n after-byte × (free ≡ rxFree size after-byte)
+    pub byte-marks : (ram' dir' : List ℕ) → in_order true (frames_of size n ram dir) ≡ true → size < older + (get_or dir (n - 1) 0 % 2048 + 4) / 4 * 4
+        → store.Becomes (rx_area size) ram dir ram' dir' n (at_newest (headed 24) (store.view (rx_area size) n ram dir))
+        → Turns size ram dir ram' dir' n after-byte × (free ≡ rx_free size after-byte)
     byte-marks ram' dir' o k B =
         let w : ℕ = get_or dir (n - 1) 0 in
-        let L = newest-of size n ram dir S h in
-        let e : fits size b (framesOf size n ram dir) ≡ false = fitting size n w ram dir L b ∙ lt-leb (roomIn L.others + (w % 2048 + 4) / 4 * 4) size (omega (arith, older-room)) in
+        let L = newest_of size n ram dir S h in
+        let e : fits size b (frames_of size n ram dir) ≡ false = fitting size n w ram dir L b ∙ lt-leb (room_in L.others + (w % 2048 + 4) / 4 * 4) size (omega (arith, older-room)) in
         rw e (lift size ram dir ram' dir' n _ _ B (marks size n w ram dir L b o t), free-marked size n free ram dir S c b)
 
     pub byte-taken : (ram' dir' : List ℕ) → older + (get_or dir (n - 1) 0 % 2048 + 4) / 4 * 4 ≤ size
-        → store.Becomes (rxArea size) ram dir ram' dir' n (atNewest (store.extended b) (store.view (rxArea size) n ram dir))
-        → Turns size ram dir ram' dir' n after-byte × (size - (older + (get_or dir (n - 1) 0 % 2048 + 4) / 4 * 4) ≡ rxFree size after-byte)
+        → store.Becomes (rx_area size) ram dir ram' dir' n (at_newest (store.extended b) (store.view (rx_area size) n ram dir))
+        → Turns size ram dir ram' dir' n after-byte × (size - (older + (get_or dir (n - 1) 0 % 2048 + 4) / 4 * 4) ≡ rx_free size after-byte)
     byte-taken ram' dir' k B =
         let w : ℕ = get_or dir (n - 1) 0 in
-        let L = newest-of size n ram dir S h in
-        let e : fits size b (framesOf size n ram dir) ≡ true = fitting size n w ram dir L b ∙ le-leb (roomIn L.others + (w % 2048 + 4) / 4 * 4) size (omega (arith, older-room)) in
+        let L = newest_of size n ram dir S h in
+        let e : fits size b (frames_of size n ram dir) ≡ true = fitting size n w ram dir L b ∙ le-leb (room_in L.others + (w % 2048 + 4) / 4 * 4) size (omega (arith, older-room)) in
         rw e (lift size ram dir ram' dir' n _ _ B (taken size n w ram dir L b t), omega (arith, older-room, room-taken size n w ram dir L b t))
 
-    pub byte-open : older + (get_or dir (n - 1) 0 % 2048 + 4) / 4 * 4 ≤ size → store.Open (rxArea size) (older + get_or dir (n - 1) 0 % 2048) 1 (store.view (rxArea size) n ram dir)
-    byte-open k =
+    pub byte_open : older + (get_or dir (n - 1) 0 % 2048 + 4) / 4 * 4 ≤ size → store.Open (rx_area size) (older + get_or dir (n - 1) 0 % 2048) 1 (store.view (rx_area size) n ram dir)
+    byte_open k =
         let w : ℕ = get_or dir (n - 1) 0 in
-        let L = newest-of size n ram dir S h in
+        let L = newest_of size n ram dir S h in
         rw older-room (opening size n w ram dir L (leb-false 1792 (w % 2048) (neither (leb 49152 w) (leb 1792 (w % 2048)) t).1) (omega (arith, older-room)))
 
 -- ---- the newest frame ends with the flags h
 
-pub frame-ends : (size n h : ℕ) (check alignment : Bool) (ram dir ram' dir' : List ℕ) → store.Sound (rxArea size) n ram dir → 0 < n
+pub frame-ends : (size n h : ℕ) (check alignment : Bool) (ram dir ram' dir' : List ℕ) → store.Sound (rx_area size) n ram dir → 0 < n
     → state_of h ≡ ending (leb 49152 (get_or dir (n - 1) 0)) (get_or dir (n - 1) 0 % 2048) check alignment
-    → store.Becomes (rxArea size) ram dir ram' dir' n (atNewest (headed h) (store.view (rxArea size) n ram dir))
-    → Turns size ram dir ram' dir' n (atNewest (ends check alignment) (framesOf size n ram dir))
+    → store.Becomes (rx_area size) ram dir ram' dir' n (at_newest (headed h) (store.view (rx_area size) n ram dir))
+    → Turns size ram dir ram' dir' n (at_newest (ends check alignment) (frames_of size n ram dir))
 frame-ends size n h check alignment ram dir ram' dir' S p s B =
-    lift size ram dir ram' dir' n _ _ B (ended size n (get_or dir (n - 1) 0) ram dir (newest-of size n ram dir S p) h check alignment s)
+    lift size ram dir ram' dir' n _ _ B (ended size n (get_or dir (n - 1) 0) ram dir (newest_of size n ram dir S p) h check alignment s)
 
 -- ---- a frame begins: the next byte goes behind the others, and the first bytes are its own
 
-pub start-open : (size at m h : ℕ) (fs : List store.Frame) → at ≡ roomIn fs → m ≤ 1792 → roomIn fs + round4 m ≤ size → store.Open (rxArea size) at m (fs ++ (begun h [] ∷ []))
-start-open size at m h fs e short space =
+pub start_open : (size at m h : ℕ) (fs : List store.Frame) → at ≡ room_in fs → m ≤ 1792 → room_in fs + round4 m ≤ size → store.Open (rx_area size) at m (fs ++ (begun h [] ∷ []))
+start_open size at m h fs e short space =
     let f : store.Frame = begun h [] in
-    let d : roomIn (store.older (fs ++ (f ∷ []))) ≡ roomIn fs = ap roomIn (older-snoc fs f) in
-    let l : length (store.newest (fs ++ (f ∷ []))) ≡ 0 = ap length (newest-snoc fs f) in
+    let d : room_in (store.older (fs ++ (f ∷ []))) ≡ room_in fs = ap room_in (older_snoc fs f) in
+    let l : length (store.newest (fs ++ (f ∷ []))) ≡ 0 = ap length (newest_snoc fs f) in
     let z : 0 + m ≡ m = omega arith in
-    record { some = snoc-not fs f; short = omega arith; here = omega arith; space = rw (d, l, z) space }
+    record { some = snoc_not fs f; short = omega arith; here = omega arith; space = rw (d, l, z) space }
 
 pub start-turns : (size n : ℕ) (bs ram dir ram₁ dir₁ ram' dir' : List ℕ)
-    → store.Becomes (rxArea size) ram dir ram₁ dir₁ (n + 1) (store.view (rxArea size) n ram dir ++ (begun 16 [] ∷ []))
-    → store.Becomes (rxArea size) ram₁ dir₁ ram' dir' (n + 1) (atNewest (store.extended_by bs) (store.view (rxArea size) (n + 1) ram₁ dir₁))
-    → Turns size ram dir ram' dir' (n + 1) (framesOf size n ram dir ++ (fresh bs ∷ []))
+    → store.Becomes (rx_area size) ram dir ram₁ dir₁ (n + 1) (store.view (rx_area size) n ram dir ++ (begun 16 [] ∷ []))
+    → store.Becomes (rx_area size) ram₁ dir₁ ram' dir' (n + 1) (at_newest (store.extended_by bs) (store.view (rx_area size) (n + 1) ram₁ dir₁))
+    → Turns size ram dir ram' dir' (n + 1) (frames_of size n ram dir ++ (fresh bs ∷ []))
 unfolding state_of
 start-turns size n bs ram dir ram₁ dir₁ ram' dir' B C =
-    lift size ram dir ram' dir' (n + 1) _ _ (after (rxArea size) ram dir ram₁ dir₁ ram' dir' (n + 1) (n + 1) _ _ B C)
-    (ap (λ (l : List store.Frame). map told (atNewest (store.extended_by bs) l)) B.holds
-    ∙ ap (λ (l : List store.Frame). map told l) (at_snoc (store.extended_by bs) (store.view (rxArea size) n ram dir) (begun 16 []))
-    ∙ map_snoc (store.view (rxArea size) n ram dir) (begun 16 bs))
+    lift size ram dir ram' dir' (n + 1) _ _ (after (rx_area size) ram dir ram₁ dir₁ ram' dir' (n + 1) (n + 1) _ _ B C)
+    (ap (λ (l : List store.Frame). map told (at_newest (store.extended_by bs) l)) B.holds
+    ∙ ap (λ (l : List store.Frame). map told l) (at_snoc (store.extended_by bs) (store.view (rx_area size) n ram dir) (begun 16 []))
+    ∙ map_snoc (store.view (rx_area size) n ram dir) (begun 16 bs))

@@ -2,9 +2,9 @@
 ghost use Rattle.std.specs.Prelude.{◌≡◌, ◌<◌, get_or};
 ghost use Rattle.std.specs.Int.Signed.{mag};
 ghost use Rattle.store.specs.Store as store;
-ghost use Rattle.receive_rules.specs.Count.{encoded as encodedOf};
-ghost use Rattle.receive_rules.specs.Reading.{unreadIn, rxStatus, complete, oldest, padIn, leftIn, dataWord, afterRead, discard as discardOf, deafened};
-ghost use Rattle.receive_rules.specs.View.{rxArea, framesOf, rxOf, Sound, Step};
+ghost use Rattle.receive_rules.specs.Count.{encoded as encoded_of};
+ghost use Rattle.receive_rules.specs.Reading.{unread_in, rx_status, complete, oldest, pad_in, left_in, data_word, after_read, discard as discard_of, deafened};
+ghost use Rattle.receive_rules.specs.View.{rx_area, frames_of, rx_of, Sound, Step};
 
 use crate::{COMING, SLOTS};
 use receive_rules::Receive;
@@ -13,7 +13,7 @@ use store::Area;
 // The unread bytes of the oldest frame: stored less read, below 0 once pad has been read.
 pub fn unread(ram: &[u8], dir: &[u16], size: usize, r: Receive) -> i16
     requires { Sound size r ram.now dir.now }
-    ensures { result ≡ unreadIn r.receiver.read (framesOf size r.frames ram.now dir.now) }
+    ensures { result ≡ unread_in r.receiver.read (frames_of size r.frames ram.now dir.now) }
 {
     let count = r.frames;
     if count == 0 {
@@ -27,7 +27,7 @@ pub fn unread(ram: &[u8], dir: &[u16], size: usize, r: Receive) -> i16
 // Bits 10-0 of RX Status: the count in two's complement.
 fn encoded(count: i16) -> u16
     requires { mag count < 2048 }
-    ensures { (result ≡ encodedOf count) × (result < 2048) }
+    ensures { (result ≡ encoded_of count) × (result < 2048) }
 {
     if count < 0 {
         return (count + 2048) as u16;
@@ -38,7 +38,7 @@ fn encoded(count: i16) -> u16
 // RX Status shows the oldest frame.
 pub fn rx_status(ram: &[u8], dir: &[u16], size: usize, r: Receive) -> u16
     requires { Sound size r ram.now dir.now }
-    ensures { result ≡ rxStatus r.receiver.read (framesOf size r.frames ram.now dir.now) }
+    ensures { result ≡ rx_status r.receiver.read (frames_of size r.frames ram.now dir.now) }
 {
     let count = r.frames;
     if count == 0 {
@@ -58,7 +58,7 @@ pub fn rx_status(ram: &[u8], dir: &[u16], size: usize, r: Receive) -> u16
 // RX Complete stands while the oldest frame is complete.
 pub fn rx_complete(ram: &[u8], dir: &[u16], size: usize, r: Receive) -> bool
     requires { Sound size r ram.now dir.now }
-    ensures { result ≡ complete (framesOf size r.frames ram.now dir.now) }
+    ensures { result ≡ complete (frames_of size r.frames ram.now dir.now) }
 {
     let count = r.frames;
     if count == 0 {
@@ -70,8 +70,8 @@ pub fn rx_complete(ram: &[u8], dir: &[u16], size: usize, r: Receive) -> bool
 
 // A byte of the oldest frame, or 0 past its end.
 fn oldest_byte(ram: &[u8], dir: &[u16], size: usize, count: usize, i: usize) -> u16
-    requires { store.Sound (rxArea size) count ram.now dir.now × (0 < count) }
-    ensures { (result ≡ get_or (oldest (framesOf size count ram.now dir.now)) i 0) × (result < 256) }
+    requires { store.Sound (rx_area size) count ram.now dir.now × (0 < count) }
+    ensures { (result ≡ get_or (oldest (frames_of size count ram.now dir.now)) i 0) × (result < 256) }
 {
     let a = Area {
         base: 0,
@@ -88,8 +88,8 @@ fn oldest_byte(ram: &[u8], dir: &[u16], size: usize, count: usize, i: usize) -> 
 
 // The pad of the oldest frame, up to a length rounded to 4; none until its end.
 fn pad(ram: &[u8], dir: &[u16], size: usize, count: usize) -> u16
-    requires { store.Sound (rxArea size) count ram.now dir.now }
-    ensures { (result ≡ padIn (framesOf size count ram.now dir.now)) × (result < 4) }
+    requires { store.Sound (rx_area size) count ram.now dir.now }
+    ensures { (result ≡ pad_in (frames_of size count ram.now dir.now)) × (result < 4) }
 {
     if count == 0 {
         return 0;
@@ -105,7 +105,7 @@ fn pad(ram: &[u8], dir: &[u16], size: usize, count: usize) -> u16
 // The bytes left to read: the unread ones and the pad.
 fn left(ram: &[u8], dir: &[u16], size: usize, r: Receive) -> i16
     requires { Sound size r ram.now dir.now }
-    ensures { result ≡ leftIn (rxOf size r ram.now dir.now) }
+    ensures { result ≡ left_in (rx_of size r ram.now dir.now) }
 {
     let count = r.frames;
     let unread = unread(ram, dir, size, r);
@@ -123,7 +123,7 @@ pub struct Got {
 // A data read takes a word. With fewer than two bytes left it is a receive failure, and while that stands it gives 0 and moves nothing.
 pub fn read_data(ram: &[u8], dir: &[u16], size: usize, r: Receive) -> Got
     requires { Sound size r ram.now dir.now }
-    ensures { (result.word ≡ dataWord (rxOf size r ram.now dir.now)) × Step size result.receive ram.now dir.now ram.now dir.now (afterRead (rxOf size r ram.now dir.now)) }
+    ensures { (result.word ≡ data_word (rx_of size r ram.now dir.now)) × Step size result.receive ram.now dir.now ram.now dir.now (after_read (rx_of size r ram.now dir.now)) }
 {
     let a = r.receiver;
     if a.failed {
@@ -157,7 +157,7 @@ pub fn read_data(ram: &[u8], dir: &[u16], size: usize, r: Receive) -> Got
 // RX Discard: the oldest frame leaves, and its room returns; of an unfinished one the rest is ignored too.
 pub fn discard(ram: &mut [u8], dir: &mut [u16], size: usize, r: Receive) -> Receive
     requires { Sound size r ram.old dir.old }
-    ensures { Step size result ram.old dir.old ram.new dir.new (discardOf (rxOf size r ram.old dir.old)) }
+    ensures { Step size result ram.old dir.old ram.new dir.new (discard_of (rx_of size r ram.old dir.old)) }
 {
     if r.receiver.failed {
         return r;

@@ -2,9 +2,9 @@
 ghost use Rattle.std.specs.Prelude.{◌≡◌, ◌≤◌, ◌<◌, length};
 ghost use Rattle.store.specs.Store as store;
 ghost use Rattle.receive_rules.specs.Reading.{readable};
-ghost use Rattle.receive_rules.specs.Early.{settleEarly};
-ghost use Rattle.receive_rules.specs.Sound.{inOrder, earlySettled};
-ghost use Rattle.receive_rules.specs.View.{rxArea, framesOf, rxOf, Packed, Step, soundSide, allEnded};
+ghost use Rattle.receive_rules.specs.Early.{settle_early};
+ghost use Rattle.receive_rules.specs.Sound.{in_order, early_settled};
+ghost use Rattle.receive_rules.specs.View.{rx_area, frames_of, rx_of, Packed, Step, sound_side, all_ended};
 
 use crate::{COMING, EARLY_LEAST, LONGEST, SLOTS};
 use receive_rules::{Receive, Receiver};
@@ -12,7 +12,7 @@ use receive_rules::{Receive, Receiver};
 // RX Early, at the end of every step.
 pub fn settle_early(ram: &[u8], dir: &[u16], size: usize, r: Receive) -> Receive
     requires { Packed size r ram.now dir.now }
-    ensures { Step size result ram.now dir.now ram.now dir.now (settleEarly (rxOf size r ram.now dir.now)) }
+    ensures { Step size result ram.now dir.now ram.now dir.now (settle_early (rx_of size r ram.now dir.now)) }
 {
     let mut next = r;
     let count = r.frames;
@@ -33,8 +33,8 @@ pub fn settle_early(ram: &[u8], dir: &[u16], size: usize, r: Receive) -> Receive
 
 // The bytes that may be read of the oldest frame.
 fn readable_bytes(ram: &[u8], dir: &[u16], size: usize, count: usize) -> u16
-    requires { store.Sound (rxArea size) count ram.now dir.now }
-    ensures { (result ≡ readable (framesOf size count ram.now dir.now)) × (result < 2049) }
+    requires { store.Sound (rx_area size) count ram.now dir.now }
+    ensures { (result ≡ readable (frames_of size count ram.now dir.now)) × (result < 2049) }
 {
     if count == 0 {
         return 0;
@@ -50,7 +50,7 @@ fn readable_bytes(ram: &[u8], dir: &[u16], size: usize, count: usize) -> u16
 // Whether every one of `count` frames has 8 to 1,792 bytes and has ended.
 fn all_ended(dir: &[u16], count: usize) -> bool
     requires { count ≤ length dir.now }
-    ensures { result ≡ allEnded (store.part 0 count dir.now) }
+    ensures { result ≡ all_ended (store.part 0 count dir.now) }
 {
     let mut good = true;
     let mut i: usize = 0;
@@ -65,8 +65,8 @@ fn all_ended(dir: &[u16], count: usize) -> bool
 
 // Whether only the newest frame is coming, and it is just while the wire stores it.
 fn in_order(ram: &[u8], dir: &[u16], size: usize, count: usize, storing: bool) -> bool
-    requires { store.Sound (rxArea size) count ram.now dir.now }
-    ensures { result ≡ inOrder storing (framesOf size count ram.now dir.now) }
+    requires { store.Sound (rx_area size) count ram.now dir.now }
+    ensures { result ≡ in_order storing (frames_of size count ram.now dir.now) }
 {
     if !storing {
         return all_ended(dir, count);
@@ -81,8 +81,8 @@ fn in_order(ram: &[u8], dir: &[u16], size: usize, count: usize, storing: bool) -
 
 // Whether RX Early was set for the oldest frame if it is due, and for no other.
 pub fn early_settled(ram: &[u8], dir: &[u16], size: usize, count: usize, r: Receiver) -> bool
-    requires { store.Sound (rxArea size) count ram.now dir.now }
-    ensures { result ≡ earlySettled r (framesOf size count ram.now dir.now) }
+    requires { store.Sound (rx_area size) count ram.now dir.now }
+    ensures { result ≡ early_settled r (frames_of size count ram.now dir.now) }
 {
     if count == 0 {
         return !r.told;
@@ -97,7 +97,7 @@ pub fn early_settled(ram: &[u8], dir: &[u16], size: usize, count: usize, r: Rece
 // The test of soundness that every public call makes of the receive side.
 pub fn rx_sound(ram: &[u8], dir: &[u16], size: usize, r: Receive) -> bool
     requires { (size ≤ 6144) × (6144 ≤ length ram.now) × (768 ≤ length dir.now) }
-    ensures { result ≡ soundSide size r ram.now dir.now }
+    ensures { result ≡ sound_side size r ram.now dir.now }
 {
     let count = r.frames;
     if SLOTS < count {

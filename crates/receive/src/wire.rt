@@ -1,11 +1,11 @@
 // The wire: a frame's start with its first 8 bytes, its single bytes, and its end.
 ghost use Rattle.std.specs.Prelude.{◌≡◌, true, ◌<◌, ◌≤◌, ◌%◌, leb};
-ghost use Rattle.store.specs.Store.{atNewest};
+ghost use Rattle.store.specs.Store.{at_newest};
 ghost use Rattle.store.specs.Store as store;
-ghost use Rattle.receive_rules.specs.Wire.{address, passes, wireStart, fits, takes, wireByte, ending, wireEnd};
-ghost use Rattle.receive_rules.specs.Reading.{rxFree};
-ghost use Rattle.receive_rules.specs.Sound.{inOrder};
-ghost use Rattle.receive_rules.specs.View.{state_of, rxArea, framesOf, rxOf, Sound, Turns, Step};
+ghost use Rattle.receive_rules.specs.Wire.{address, passes, wire_start, fits, takes, wire_byte, ending, wire_end};
+ghost use Rattle.receive_rules.specs.Reading.{rx_free};
+ghost use Rattle.receive_rules.specs.Sound.{in_order};
+ghost use Rattle.receive_rules.specs.View.{state_of, rx_area, frames_of, rx_of, Sound, Turns, Step};
 
 use crate::{LONGEST, OVERRUN, SLOTS};
 use receive_rules::Receive;
@@ -43,7 +43,7 @@ pub fn wire_start(
     first: [u8; 8],
 ) -> Receive
     requires { Sound size r ram.old dir.old × (r.receiver.wire ≡ 0) }
-    ensures { Step size result ram.old dir.old ram.new dir.new (wireStart size taken first (rxOf size r ram.old dir.old)) }
+    ensures { Step size result ram.old dir.old ram.new dir.new (wire_start size taken first (rx_of size r ram.old dir.old)) }
 {
     let mut next = r;
     let count = r.frames;
@@ -70,10 +70,10 @@ pub fn wire_start(
 
 // A byte for the newest frame, which is coming: dropped after an overrun and past 1,792; without room it marks the frame. `free` is RX Free, and so is the answer after it.
 fn store_byte(ram: &mut [u8], dir: &mut [u16], size: usize, count: usize, free: u16, b: u8) -> u16
-    requires sound { store.Sound (rxArea size) count ram.old dir.old × (0 < count) × (size ≤ 6144) × (inOrder true (framesOf size count ram.old dir.old) ≡ true) }
-    requires free_value { free ≡ rxFree size (framesOf size count ram.old dir.old) }
-    ensures turns { Turns size ram.old dir.old ram.new dir.new count (atNewest (takes b (fits size b (framesOf size count ram.old dir.old))) (framesOf size count ram.old dir.old)) }
-    ensures value { result ≡ rxFree size (atNewest (takes b (fits size b (framesOf size count ram.old dir.old))) (framesOf size count ram.old dir.old)) }
+    requires sound { store.Sound (rx_area size) count ram.old dir.old × (0 < count) × (size ≤ 6144) × (in_order true (frames_of size count ram.old dir.old) ≡ true) }
+    requires free_value { free ≡ rx_free size (frames_of size count ram.old dir.old) }
+    ensures turns { Turns size ram.old dir.old ram.new dir.new count (at_newest (takes b (fits size b (frames_of size count ram.old dir.old))) (frames_of size count ram.old dir.old)) }
+    ensures value { result ≡ rx_free size (at_newest (takes b (fits size b (frames_of size count ram.old dir.old))) (frames_of size count ram.old dir.old)) }
 {
     let a = Area {
         base: 0,
@@ -99,7 +99,7 @@ fn store_byte(ram: &mut [u8], dir: &mut [u16], size: usize, count: usize, free: 
 // A byte of a frame. That of a frame that is ignored changes nothing.
 pub fn wire_byte(ram: &mut [u8], dir: &mut [u16], size: usize, r: Receive, b: u8) -> Receive
     requires { Sound size r ram.old dir.old }
-    ensures { Step size result ram.old dir.old ram.new dir.new (wireByte size b (rxOf size r ram.old dir.old)) }
+    ensures { Step size result ram.old dir.old ram.new dir.new (wire_byte size b (rx_of size r ram.old dir.old)) }
 {
     if r.receiver.wire != 2 {
         return r;
@@ -143,7 +143,7 @@ pub fn wire_end(
     alignment: bool,
 ) -> Receive
     requires { Sound size r ram.now dir.old }
-    ensures { Step size result ram.now dir.old ram.now dir.new (wireEnd check alignment (rxOf size r ram.now dir.old)) }
+    ensures { Step size result ram.now dir.old ram.now dir.new (wire_end check alignment (rx_of size r ram.now dir.old)) }
 {
     let mut next = r;
     next.receiver.wire = 0;

@@ -10,26 +10,26 @@ use lib.ListN.{length}
 use Rattle.store.specs.Store as store
 use Rattle.receive_rules.specs.declared.Receive.{Receive}
 use Rattle.receive_rules.specs.Frame.{Rx, room}
-use Rattle.receive_rules.specs.Reading.{readable, rxFree, earlyLeast}
-use Rattle.receive_rules.specs.Sound.{inOrder, earlySettled, kept, sound}
-use Rattle.receive_rules.specs.View.{framesOf, rxArea, rxOf, Sound, soundSide}
+use Rattle.receive_rules.specs.Reading.{readable, rx_free, early_least}
+use Rattle.receive_rules.specs.Sound.{in_order, early_settled, kept, sound}
+use Rattle.receive_rules.specs.View.{frames_of, rx_area, rx_of, Sound, sound_side}
 use Rattle.bits.proofs.Tests.{both, never}
 
 pub record Kept (size : ℕ) (x : Rx) : Type 0 where
   pub space : room x.frames ≤ size
   pub wire : x.receiver.wire ≤ 2
-  pub order : inOrder (eqb x.receiver.wire 2) x.frames ≡ true
+  pub order : in_order (eqb x.receiver.wire 2) x.frames ≡ true
   pub read : x.receiver.read ≤ readable x.frames
-  pub threshold : (earlyLeast ≤ x.receiver.threshold) × (x.receiver.threshold ≤ 2047)
+  pub threshold : (early_least ≤ x.receiver.threshold) × (x.receiver.threshold ≤ 2047)
   pub early : (x.receiver.told || not x.receiver.early) ≡ true
 
 pub kept-told : (size : ℕ) (x : Rx) → kept size x ≡ true → Kept size x
 kept-told size x h =
     let a : Bool = leb (room x.frames) size in
     let b : Bool = leb x.receiver.wire 2 in
-    let d : Bool = inOrder (eqb x.receiver.wire 2) x.frames in
+    let d : Bool = in_order (eqb x.receiver.wire 2) x.frames in
     let e : Bool = leb x.receiver.read (readable x.frames) in
-    let g : Bool = leb earlyLeast x.receiver.threshold in
+    let g : Bool = leb early_least x.receiver.threshold in
     let m : Bool = leb x.receiver.threshold 2047 in
     let t = both (a && b && d && e && (g && m)) (x.receiver.told || not x.receiver.early) h in
     let s = both (a && b && d && e) (g && m) t.0 in
@@ -48,10 +48,10 @@ kept-told size x h =
 pub kept-shown : (size : ℕ) (x : Rx) → Kept size x → kept size x ≡ true
 kept-shown size x k = rw (le-leb _ _ k.space, le-leb _ _ k.wire, k.order, le-leb _ _ k.read, le-leb _ _ k.threshold.0, le-leb _ _ k.threshold.1, k.early)
 
-pub sound-told : (size : ℕ) (x : Rx) → sound size x ≡ true → Kept size x × (earlySettled x.receiver x.frames ≡ true)
+pub sound-told : (size : ℕ) (x : Rx) → sound size x ≡ true → Kept size x × (early_settled x.receiver x.frames ≡ true)
 sound-told size x h = let p = both (kept size x) _ h in (kept-told size x p.0, p.1)
 
-pub sound-shown : (size : ℕ) (x : Rx) → Kept size x → earlySettled x.receiver x.frames ≡ true → sound size x ≡ true
+pub sound-shown : (size : ℕ) (x : Rx) → Kept size x → early_settled x.receiver x.frames ≡ true → sound size x ≡ true
 sound-shown size x k e = rw (kept-shown size x k, e)
 
 pub sound-kept : (size : ℕ) (x : Rx) → sound size x ≡ true → kept size x ≡ true
@@ -59,16 +59,16 @@ sound-kept size x h = (both (kept size x) _ h).0
 
 -- ---- a frame that the wire stores is there
 
-some_stored : (size n : ℕ) (ram dir : List ℕ) → inOrder true (framesOf size n ram dir) ≡ true → 0 < n
-unfolding inOrder store.frames
+some_stored : (size n : ℕ) (ram dir : List ℕ) → in_order true (frames_of size n ram dir) ≡ true → 0 < n
+unfolding in_order store.frames
 some_stored size zero ram dir h = never h
 some_stored size (suc n) ram dir h = omega arith
 
 module _ (size : ℕ) (r : Receive) (ram dir : List ℕ) (S : Sound size r ram dir) where
-  pub facts : Kept size (rxOf size r ram dir)
-  facts = (sound-told size (rxOf size r ram dir) S.calm).0
+  pub facts : Kept size (rx_of size r ram dir)
+  facts = (sound-told size (rx_of size r ram dir) S.calm).0
 
-  pub stored-order : r.receiver.wire ≡ 2 → inOrder true (framesOf size r.frames ram dir) ≡ true
+  pub stored-order : r.receiver.wire ≡ 2 → in_order true (frames_of size r.frames ram dir) ≡ true
   stored-order h = rw (eq-eqb r.receiver.wire 2 h) at facts.order
 
   pub stored_some : r.receiver.wire ≡ 2 → 0 < r.frames
@@ -76,21 +76,21 @@ module _ (size : ℕ) (r : Receive) (ram dir : List ℕ) (S : Sound size r ram d
 
 -- ---- the test of a receive side is true where, and only where, it is sound
 
-pub side-told : (size : ℕ) (r : Receive) (ram dir : List ℕ) → size ≤ 6144 → 6144 ≤ length ram → 768 ≤ length dir → soundSide size r ram dir ≡ true
+pub side_told : (size : ℕ) (r : Receive) (ram dir : List ℕ) → size ≤ 6144 → 6144 ≤ length ram → 768 ≤ length dir → sound_side size r ram dir ≡ true
     → Sound size r ram dir
-unfolding soundSide
-side-told size r ram dir small hr hd h =
-    let used : ℕ = store.roomOf (store.words (rxArea size) r.frames dir) in
-    let free : ℕ = rxFree size (framesOf size r.frames ram dir) in
-    let p = both (leb r.frames 768 && leb used size && eqb r.free free) (sound size (rxOf size r ram dir)) h in
+unfolding sound_side
+side_told size r ram dir small hr hd h =
+    let used : ℕ = store.room_of (store.words (rx_area size) r.frames dir) in
+    let free : ℕ = rx_free size (frames_of size r.frames ram dir) in
+    let p = both (leb r.frames 768 && leb used size && eqb r.free free) (sound size (rx_of size r ram dir)) h in
     let n = both (leb r.frames 768 && leb used size) (eqb r.free free) p.0 in
     let q = both (leb r.frames 768) (leb used size) n.0 in
     record {
       small = small;
       packed = record {
         lies = record {
-          in-ram = omega arith;
-          in-dir = omega arith;
+          in_ram = omega arith;
+          in_dir = omega arith;
           few = leb-true r.frames 768 q.0;
           small = lit< tt;
           room = leb-true used size q.1;
@@ -101,12 +101,12 @@ side-told size r ram dir small hr hd h =
     }
 
 -- .. of memory of any size
-pub side-calm : (size : ℕ) (r : Receive) (ram dir : List ℕ) → soundSide size r ram dir ≡ true → sound size (rxOf size r ram dir) ≡ true
-unfolding soundSide
-side-calm size r ram dir h =
-    let used : ℕ = store.roomOf (store.words (rxArea size) r.frames dir) in
-    (both (leb r.frames 768 && leb used size && eqb r.free (rxFree size (framesOf size r.frames ram dir))) (sound size (rxOf size r ram dir)) h).1
+pub side_calm : (size : ℕ) (r : Receive) (ram dir : List ℕ) → sound_side size r ram dir ≡ true → sound size (rx_of size r ram dir) ≡ true
+unfolding sound_side
+side_calm size r ram dir h =
+    let used : ℕ = store.room_of (store.words (rx_area size) r.frames dir) in
+    (both (leb r.frames 768 && leb used size && eqb r.free (rx_free size (frames_of size r.frames ram dir))) (sound size (rx_of size r ram dir)) h).1
 
-pub side-shown : (size : ℕ) (r : Receive) (ram dir : List ℕ) → Sound size r ram dir → soundSide size r ram dir ≡ true
-unfolding soundSide
-side-shown size r ram dir S = rw (le-leb _ _ S.packed.lies.few, le-leb _ _ S.packed.lies.room, eq-eqb _ _ S.packed.counted, S.calm)
+pub side_shown : (size : ℕ) (r : Receive) (ram dir : List ℕ) → Sound size r ram dir → sound_side size r ram dir ≡ true
+unfolding sound_side
+side_shown size r ram dir S = rw (le-leb _ _ S.packed.lies.few, le-leb _ _ S.packed.lies.room, eq-eqb _ _ S.packed.counted, S.calm)

@@ -7,19 +7,19 @@ use borrow.Author.Tests.{leb-true, leb-false, lt-ltb, le-ltb}
 use lib.Dec.{leb, ltb}
 use lib.ListN.{length}
 use Rattle.receive_rules.specs.declared.Receiver.{Receiver}
-use Rattle.receive_rules.specs.Frame.{Frame, Rx, isComing}
-use Rattle.receive_rules.specs.Update.{withEarly}
-use Rattle.receive_rules.specs.Early.{earlyFlag, toldFlag, settleEarly}
-use Rattle.receive_rules.specs.Sound.{earlySettled, kept, sound}
-use Rattle.bits.proofs.Tests.{by-test, never}
+use Rattle.receive_rules.specs.Frame.{Frame, Rx, is_coming}
+use Rattle.receive_rules.specs.Update.{with_early}
+use Rattle.receive_rules.specs.Early.{early_flag, told_flag, settle_early}
+use Rattle.receive_rules.specs.Sound.{early_settled, kept, sound}
+use Rattle.bits.proofs.Tests.{by_test, never}
 use Rattle.receive_rules.proofs.Facts.{kept-told, sound-told, sound-shown}
 
-flags-settled : (r : Receiver) (fs : List Frame) → (r.told || not r.early) ≡ true
-    → ((toldFlag r fs || not (earlyFlag r fs)) ≡ true) × (earlySettled (withEarly (earlyFlag r fs) (toldFlag r fs) r) fs ≡ true)
-unfolding earlyFlag toldFlag earlySettled
-flags-settled r [] h = (refl, refl)
-flags-settled r (f ∷ fs) h =
-    by-test (isComing f.state)
+flags_settled : (r : Receiver) (fs : List Frame) → (r.told || not r.early) ≡ true
+    → ((told_flag r fs || not (early_flag r fs)) ≡ true) × (early_settled (with_early (early_flag r fs) (told_flag r fs) r) fs ≡ true)
+unfolding early_flag told_flag early_settled
+flags_settled r [] h = (refl, refl)
+flags_settled r (f ∷ fs) h =
+    by_test (is_coming f.state)
     (λ y. rw y (way r.told r.early (leb r.threshold (length f.bytes)) h (λ n. lt-ltb _ _ (leb-false r.threshold (length f.bytes) n))))
     (λ m. rw m (refl, refl))
   where
@@ -30,11 +30,11 @@ flags-settled r (f ∷ fs) h =
     way false early true h l = (refl, refl)
     way false early false h l = (h, l refl)
 
-pub settled-sound : (size : ℕ) (x : Rx) → kept size x ≡ true → sound size (settleEarly x) ≡ true
-settled-sound size x h =
+pub settled_sound : (size : ℕ) (x : Rx) → kept size x ≡ true → sound size (settle_early x) ≡ true
+settled_sound size x h =
     let k = kept-told size x h in
-    let q = flags-settled x.receiver x.frames k.early in
-    sound-shown size (settleEarly x) (record { space = k.space; wire = k.wire; order = k.order; read = k.read; threshold = k.threshold; early = q.0 }) q.1
+    let q = flags_settled x.receiver x.frames k.early in
+    sound-shown size (settle_early x) (record { space = k.space; wire = k.wire; order = k.order; read = k.read; threshold = k.threshold; early = q.0 }) q.1
 
 -- where no frame is coming neither flag stands
 over : (told early : Bool) → (told || not early) ≡ true → not told ≡ true → (false ≡ early) × (false ≡ told)
@@ -43,11 +43,11 @@ over false true h e = never h
 over false false h e = (refl, refl)
 
 -- settling changes nothing that is settled
-flags-same : (r : Receiver) (fs : List Frame) → (r.told || not r.early) ≡ true → earlySettled r fs ≡ true → (earlyFlag r fs ≡ r.early) × (toldFlag r fs ≡ r.told)
-unfolding earlyFlag toldFlag earlySettled
+flags-same : (r : Receiver) (fs : List Frame) → (r.told || not r.early) ≡ true → early_settled r fs ≡ true → (early_flag r fs ≡ r.early) × (told_flag r fs ≡ r.told)
+unfolding early_flag told_flag early_settled
 flags-same r [] h e = over r.told r.early h e
 flags-same r (f ∷ fs) h e =
-    by-test (isComing f.state)
+    by_test (is_coming f.state)
     (λ y. rw y (coming r.told r.early (leb r.threshold (length f.bytes)) (rw y at e) (λ t. le-ltb _ _ (leb-true r.threshold (length f.bytes) t))))
     (λ m. rw m (over r.told r.early h (rw m at e)))
   where
@@ -58,7 +58,7 @@ flags-same r (f ∷ fs) h e =
     coming false early true e l = never (sym (l refl) ∙ e)
     coming false early false e l = (refl, refl)
 
-pub settled_same : (size : ℕ) (x : Rx) → sound size x ≡ true → settleEarly x ≡ x
+pub settled_same : (size : ℕ) (x : Rx) → sound size x ≡ true → settle_early x ≡ x
 settled_same size x h =
     let p = sound-told size x h in
     let q = flags-same x.receiver x.frames p.0.early p.1 in

@@ -3,9 +3,9 @@ use mathlib.Core.Path.{◌≡◌, refl, sym}
 use mathlib.Core.Bool.{Bool, true, false, cond, not, ◌&&◌, ◌||◌}
 use mathlib.Core.List.{List, [], ◌∷◌, ◌++◌}
 use Prim.Native.Nat.{ℕ}
-use Rattle.receive_rules.specs.Frame.{State, coming, whole, damaged, Frame, isComing, overran}
+use Rattle.receive_rules.specs.Frame.{State, coming, whole, damaged, Frame, is_coming, overran}
 use Rattle.receive_rules.specs.Wire.{longer, full, marked, takes}
-use Rattle.receive_rules.specs.Sound.{ended, started, sized, inOrder}
+use Rattle.receive_rules.specs.Sound.{ended, started, sized, in_order}
 use Rattle.bits.proofs.Tests.{both, never}
 use lib.ListN.{length}
 
@@ -13,11 +13,11 @@ abbrev framed : List ℕ → State → Frame
 framed bs s = record { bytes = bs; state = s }
 
 -- the newest frame is coming, where the order says that one is
-pub newest-coming : (fs : List Frame) (f : Frame) → inOrder true (fs ++ (f ∷ [])) ≡ true → isComing f.state ≡ true
-unfolding inOrder
-newest-coming [] f h = (both (sized (length f.bytes)) (isComing f.state) h).1
-newest-coming (x ∷ []) f h = (both (sized (length f.bytes)) (isComing f.state) (both (ended x) (started f) h).1).1
-newest-coming (x ∷ y ∷ fs) f h = newest-coming (y ∷ fs) f (both (ended x) (inOrder true ((y ∷ fs) ++ (f ∷ []))) h).1
+pub newest-coming : (fs : List Frame) (f : Frame) → in_order true (fs ++ (f ∷ [])) ≡ true → is_coming f.state ≡ true
+unfolding in_order
+newest-coming [] f h = (both (sized (length f.bytes)) (is_coming f.state) h).1
+newest-coming (x ∷ []) f h = (both (sized (length f.bytes)) (is_coming f.state) (both (ended x) (started f) h).1).1
+newest-coming (x ∷ y ∷ fs) f h = newest-coming (y ∷ fs) f (both (ended x) (in_order true ((y ∷ fs) ++ (f ∷ []))) h).1
 
 -- after an overrun, and past 1,792 bytes, a byte changes nothing
 pub takes_none : (b : ℕ) (space : Bool) (f : Frame) → (overran f.state || full f) ≡ true → takes b space f ≡ f
@@ -35,12 +35,12 @@ takes_none b space f h = way f.bytes f.state (full f) h
     way bs (damaged k) false h = never h
 
 -- without room it marks the frame
-pub takes-marks : (b : ℕ) (f : Frame) → isComing f.state ≡ true → (overran f.state || full f) ≡ false
+pub takes-marks : (b : ℕ) (f : Frame) → is_coming f.state ≡ true → (overran f.state || full f) ≡ false
     → takes b false f ≡ framed f.bytes (coming true)
-unfolding isComing overran marked
+unfolding is_coming overran marked
 takes-marks b f c h = way f.bytes f.state (full f) c h
   where
-    way : (bs : List ℕ) (s : State) (much : Bool) → isComing s ≡ true → (overran s || much) ≡ false
+    way : (bs : List ℕ) (s : State) (much : Bool) → is_coming s ≡ true → (overran s || much) ≡ false
         → framed (cond (overran s || (much || true)) bs (bs ++ (b ∷ []))) (marked (not much && true) s) ≡ framed bs (coming true)
     way bs (coming true) much c h = never (sym h)
     way bs (coming false) true c h = never (sym h)

@@ -5,14 +5,14 @@ use mathlib.Core.List.{List, [], ◌∷◌, ◌++◌}
 use Prim.Native.Nat.{ℕ, ◌+◌, ◌*◌, ◌≤◌, ◌<◌}
 use borrow.Author.Tests.{le-leb, lt-leb, le-ltb, eq-eqb}
 use lib.ListN.{length, get_or, length-append}
-use Rattle.store.specs.Store.{atNewest, round4}
+use Rattle.store.specs.Store.{at_newest, round4}
 use Rattle.store.proofs.Laws.{at_snoc}
 use Rattle.receive_rules.specs.Frame.{Frame, Rx, overran, room}
-use Rattle.receive_rules.specs.Update.{withRead, withReceiver}
-use Rattle.receive_rules.specs.Reading.{readable, oldest, dataWord, afterRead}
-use Rattle.receive_rules.specs.Wire.{fresh, begins, wireStart, longer, fits, takes, wireByte}
-use Rattle.receive_rules.specs.Early.{settleEarly}
-use Rattle.receive_rules.proofs.Count.{beyond-is}
+use Rattle.receive_rules.specs.Update.{with_read, with_receiver}
+use Rattle.receive_rules.specs.Reading.{readable, oldest, data_word, after_read}
+use Rattle.receive_rules.specs.Wire.{fresh, begins, wire_start, longer, fits, takes, wire_byte}
+use Rattle.receive_rules.specs.Early.{settle_early}
+use Rattle.receive_rules.proofs.Count.{beyond_is}
 use Rattle.receive_rules.proofs.Laws.{room_snoc}
 use Rattle.receive_rules.proofs.Taking.{takes-longer}
 
@@ -25,14 +25,14 @@ pub record Storing (fs : List Frame) (bytes : List ℕ) (x : Rx) : Type 0 where
 
 fitting : (size b : ℕ) (bytes : List ℕ) (fs : List Frame) → room fs + round4 (length bytes + 1) ≤ size → fits size b (fs ++ (fresh bytes ∷ [])) ≡ true
 fitting size b bytes fs h =
-    let e : room (atNewest (longer b) (fs ++ (fresh bytes ∷ []))) ≡ room fs + round4 (length bytes + 1) =
+    let e : room (at_newest (longer b) (fs ++ (fresh bytes ∷ []))) ≡ room fs + round4 (length bytes + 1) =
     ap room (at_snoc (longer b) fs (fresh bytes)) ∙ room_snoc fs (longer b (fresh bytes)) ∙ ap (λ (n : ℕ). room fs + round4 n) (length-append bytes (b ∷ [])) in
     rw e (le-leb (room fs + round4 (length bytes + 1)) size h)
 
 -- a byte that fits is the frame's next
 pub byte-stored : (size b : ℕ) (bytes : List ℕ) (fs : List Frame) (x : Rx) → Storing fs bytes x → length bytes < 1792 → room fs + round4 (length bytes + 1) ≤ size
-    → Storing fs (bytes ++ (b ∷ [])) (settleEarly (wireByte size b x))
-unfolding wireByte overran
+    → Storing fs (bytes ++ (b ∷ [])) (settle_early (wire_byte size b x))
+unfolding wire_byte overran
 byte-stored size b bytes fs x S short space =
     let taken : takes b true (fresh bytes) ≡ longer b (fresh bytes) = takes-longer b (fresh bytes) (lt-leb 1792 (length bytes) short) in
     record {
@@ -42,18 +42,18 @@ byte-stored size b bytes fs x S short space =
 
 -- a start that is taken, and for which 8 bytes fit
 pub start-stored : (size : ℕ) (first : List ℕ) (x : Rx) → x.receiver.on ≡ true → room x.frames + 8 ≤ size
-    → Storing x.frames first (settleEarly (wireStart size true first x))
-unfolding wireStart begins
+    → Storing x.frames first (settle_early (wire_start size true first x))
+unfolding wire_start begins
 start-stored size first x on space = rw (on, le-leb _ size space) (record { wire = refl; frames = refl })
 
 -- ---- the data reads
 
 -- a word that may be read, and the read that takes it
 module _ (x : Rx) (good : x.receiver.failed ≡ false) (space : x.receiver.read + 2 ≤ readable x.frames) where
-  pub word_read : dataWord x ≡ get_or (oldest x.frames) x.receiver.read 0 + 256 * get_or (oldest x.frames) (x.receiver.read + 1) 0
-  unfolding dataWord
-  word_read = rw (good, beyond-is x, le-ltb _ _ space)
+  pub word_read : data_word x ≡ get_or (oldest x.frames) x.receiver.read 0 + 256 * get_or (oldest x.frames) (x.receiver.read + 1) 0
+  unfolding data_word
+  word_read = rw (good, beyond_is x, le-ltb _ _ space)
 
-  pub read-moves : afterRead x ≡ withReceiver (withRead (x.receiver.read + 2) x.receiver) x
-  unfolding afterRead
-  read-moves = rw (good, beyond-is x, le-ltb _ _ space)
+  pub read_moves : after_read x ≡ with_receiver (with_read (x.receiver.read + 2) x.receiver) x
+  unfolding after_read
+  read_moves = rw (good, beyond_is x, le-ltb _ _ space)

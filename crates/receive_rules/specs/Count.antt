@@ -11,9 +11,9 @@ encoded (pos n) = n % 2048
 encoded (negsuc n) = 2047 - n % 2048
 
 -- A frame has no more bytes than these, and so no more are unread.
-abbrev pub mostUnread : ℕ
-mostUnread = 1792
+abbrev pub most_unread : ℕ
+most_unread = 1792
 
 -- The count that a word tells. What is above the most is below 0.
 abbrev pub decoded : ℕ → ℤ
-decoded rx = cond (leb (rx % 2048) mostUnread) (pos (rx % 2048)) (negsuc (2047 - rx % 2048))
+decoded rx = cond (leb (rx % 2048) most_unread) (pos (rx % 2048)) (negsuc (2047 - rx % 2048))

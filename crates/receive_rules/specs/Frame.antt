@@ -18,10 +18,10 @@ pub record Rx : Type 0 where
   pub receiver : Receiver
   pub frames : List Frame
 
-unfoldable pub isComing : State → Bool
-isComing (coming o) = true
-isComing whole = false
-isComing (damaged k) = false
+unfoldable pub is_coming : State → Bool
+is_coming (coming o) = true
+is_coming whole = false
+is_coming (damaged k) = false
 
 unfoldable pub overran : State → Bool
 overran (coming o) = o

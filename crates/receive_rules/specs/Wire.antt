@@ -1,9 +1,9 @@
 -- The wire: a start with the first 8 bytes, then single bytes, then an end with two flags. Assumes nothing.
 use Rattle.std.specs.Prelude.{List, [], ◌∷◌, ◌++◌, Bool, true, false, cond, not, ◌&&◌, ◌||◌, ℕ, ◌+◌, length, get_or, replicate, ltb, leb, eqb}
 use Rattle.bits.specs.Bits.{has}
-use Rattle.store.specs.Store.{atNewest}
+use Rattle.store.specs.Store.{at_newest}
 use Rattle.receive_rules.specs.Frame.{State, coming, whole, damaged, Frame, Rx, overran, room}
-use Rattle.receive_rules.specs.Update.{withWire, withReceiver, withFrames}
+use Rattle.receive_rules.specs.Update.{with_wire, with_receiver, with_frames}
 
 -- ---- the filter
 
@@ -31,16 +31,16 @@ abbrev pub fresh : List ℕ → Frame
 fresh first = record { bytes = first; state = coming false }
 
 unfoldable pub begins : Bool → List ℕ → Rx → Rx
-begins true first x = record { receiver = withWire 2 x.receiver; frames = x.frames ++ (fresh first ∷ []) }
-begins false first x = withReceiver (withWire 1 x.receiver) x
+begins true first x = record { receiver = with_wire 2 x.receiver; frames = x.frames ++ (fresh first ∷ []) }
+begins false first x = with_receiver (with_wire 1 x.receiver) x
 
 -- 8 bytes fit in `size`
 abbrev pub fits8 : ℕ → List Frame → Bool
 fits8 size fs = leb (room fs + 8) size
 
 -- A frame is ignored to its end if at its start the card is inactive or its filter rejects it (`taken` is false), the receiver is off, or 8 bytes don't fit.
-unfoldable pub wireStart : ℕ → Bool → List ℕ → Rx → Rx
-wireStart size taken first x = begins (taken && (x.receiver.on && fits8 size x.frames)) first x
+unfoldable pub wire_start : ℕ → Bool → List ℕ → Rx → Rx
+wire_start size taken first x = begins (taken && (x.receiver.on && fits8 size x.frames)) first x
 
 -- ---- a byte
 
@@ -49,7 +49,7 @@ longer b f = record { bytes = f.bytes ++ (b ∷ []); state = f.state }
 
 -- there is room for one byte more of the newest frame
 abbrev pub fits : ℕ → ℕ → List Frame → Bool
-fits size b fs = leb (room (atNewest (longer b) fs)) size
+fits size b fs = leb (room (at_newest (longer b) fs)) size
 
 -- Bytes past 1,792 are dropped.
 abbrev pub full : Frame → Bool
@@ -69,9 +69,9 @@ takes b space f =
       state = marked (not (full f) && not space) f.state;
     }
 
-unfoldable pub wireByte : ℕ → ℕ → Rx → Rx
-wireByte size b x =
-    withFrames (cond (eqb x.receiver.wire 2) (atNewest (takes b (fits size b x.frames)) x.frames) x.frames) x
+unfoldable pub wire_byte : ℕ → ℕ → Rx → Rx
+wire_byte size b x =
+    with_frames (cond (eqb x.receiver.wire 2) (at_newest (takes b (fits size b x.frames)) x.frames) x.frames) x
 
 -- ---- the end
 
@@ -89,9 +89,9 @@ end_of check alignment f = ending (overran f.state) (length f.bytes) check align
 abbrev pub ends : Bool → Bool → Frame → Frame
 ends check alignment f = record { bytes = f.bytes; state = end_of check alignment f }
 
-unfoldable pub wireEnd : Bool → Bool → Rx → Rx
-wireEnd check alignment x =
+unfoldable pub wire_end : Bool → Bool → Rx → Rx
+wire_end check alignment x =
     record {
-      receiver = withWire 0 x.receiver;
-      frames = cond (eqb x.receiver.wire 2) (atNewest (ends check alignment) x.frames) x.frames;
+      receiver = with_wire 0 x.receiver;
+      frames = cond (eqb x.receiver.wire 2) (at_newest (ends check alignment) x.frames) x.frames;
     }

@@ -4,18 +4,18 @@ use mathlib.Core.Bool.{true, false}
 use mathlib.Core.List.{[], ◌∷◌, map}
 use Rattle.refusal.specs.declared.Refusal.TheVariants.{StateUnsound, LengthOutside, ArgumentOutside, MakerWrong}
 use Rattle.refusal.specs.Number.{number_of}
-use Rattle.refusal.specs.Order.{order, if, because, first_of, inOrder, isFrom, from, any}
+use Rattle.refusal.specs.Order.{order, if, because, first_of, in_order, is_from, from, any}
 
 numbers : map number_of order ≡ 1 ∷ 12 ∷ 13 ∷ 7 ∷ 2 ∷ 3 ∷ 5 ∷ 4 ∷ 11 ∷ 15 ∷ 16 ∷ 17 ∷ 18 ∷ 19 ∷ 8 ∷ 9 ∷ 10 ∷ []
 numbers = refl
 
 -- 1 before 12 is the order, 8 before 2 is not
-one-twelve : inOrder (if true StateUnsound ∷ if true ArgumentOutside ∷ []) ≡ true
-unfolding isFrom from any
-one-twelve = refl
+one_twelve : in_order (if true StateUnsound ∷ if true ArgumentOutside ∷ []) ≡ true
+unfolding is_from from any
+one_twelve = refl
 
-eight-two : inOrder (if true MakerWrong ∷ if true LengthOutside ∷ []) ≡ false
-unfolding isFrom from any
+eight-two : in_order (if true MakerWrong ∷ if true LengthOutside ∷ []) ≡ false
+unfolding is_from from any
 eight-two = refl
 
 -- of two that hold, the first

@@ -1,4 +1,4 @@
 -- What the contracts of `refusal` cite.
 pub mod Number
 pub mod Order
-pub mod Contracts
+pub mod RefusalContracts

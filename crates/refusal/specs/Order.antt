@@ -43,9 +43,9 @@ unfoldable pub any : List Refusal → Bool
 any [] = false
 any (x ∷ xs) = true
 
-unfoldable pub isFrom : List Refusal → List Test → Bool
-isFrom left [] = true
-isFrom left (t ∷ ts) = any (from t.gives left) && isFrom (from t.gives left) ts
+unfoldable pub is_from : List Refusal → List Test → Bool
+is_from left [] = true
+is_from left (t ∷ ts) = any (from t.gives left) && is_from (from t.gives left) ts
 
-abbrev pub inOrder : List Test → Bool
-inOrder ts = isFrom order ts
+abbrev pub in_order : List Test → Bool
+in_order ts = is_from order ts

@@ -1,5 +1,5 @@
 // The refusals: document 01's table "Numbers a call may answer", in its order.
-ghost use Rattle.refusal.specs.Contracts as contract;
+ghost use Rattle.refusal.specs.RefusalContracts as contract;
 
 // Each is named by what is wrong.
 #[derive(Drop)]
@@ -44,7 +44,7 @@ pub enum Refusal {
 
 // The paper's number of a refusal.
 pub fn number(why: Refusal) -> u8
-    ensures { contract.number why result }
+    ensures { contract.Number why result }
 {
     match why {
         Refusal::StateUnsound => 1,

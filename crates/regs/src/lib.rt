@@ -1,15 +1,15 @@
 // The card by value: its registers in groups, the Status word, the interrupt line, RX Status and the unread bytes, settle, power-on, and the test of its soundness.
 ghost use Rattle.std.specs.Prelude.{◌≡◌, true, false, List, ℕ, ◌%◌, ◌≤◌, ◌<◌, length};
 ghost use Rattle.bits.specs.Bits.{weigh};
-ghost use Rattle.card_rules.specs.Room.{txSize, rxSize};
+ghost use Rattle.card_rules.specs.Room.{tx_size, rx_size};
 ghost use Rattle.receive_rules.specs.View as rx;
-ghost use Rattle.card_rules.specs.Status.{shows, statusOf, statusWord, flags as flags_of, rises as risesOf, interrupting};
-ghost use Rattle.card_rules.specs.Line.{is_line, interruptLine};
-ghost use Rattle.card_rules.specs.Settle.{settle as settleOf};
-ghost use Rattle.receive_rules.specs.Reading.{rxStatus, unreadIn, rxEmpty};
-ghost use Rattle.card_rules.specs.Power.{powerOn, reset as resetOf};
-ghost use Rattle.card_rules.specs.Sound.{selectSound, kept};
-ghost use Rattle.card_rules.specs.View.{rxSizeOf, view, Held, Sound, Blank, Does, SettlesSides, Stands, soundCard};
+ghost use Rattle.card_rules.specs.Status.{shows, status_of, status_word, flags as flags_of, rises as rises_of, interrupting};
+ghost use Rattle.card_rules.specs.Line.{is_line, interrupt_line};
+ghost use Rattle.card_rules.specs.Settle.{settle as settle_of};
+ghost use Rattle.receive_rules.specs.Reading.{rx_status, unread_in, rx_empty};
+ghost use Rattle.card_rules.specs.Power.{power_on, reset as reset_of};
+ghost use Rattle.card_rules.specs.Sound.{select_sound, kept};
+ghost use Rattle.card_rules.specs.View.{rx_size_of, view, Held, Sound, Blank, Does, SettlesSides, Stands, sound_card};
 
 use card_rules::{Card, Config, Flags, Lines, Prom, Select};
 use receive_rules::{Receive, Receiver};
@@ -27,7 +27,7 @@ const HIGHEST: u16 = 1792;
 
 // The transmitter's part of the RAM, by the second Internal Configuration word.
 pub fn tx_size(second: u16) -> usize
-    ensures { (result ≡ txSize (second % 4)) × (result ≤ 4096) }
+    ensures { (result ≡ tx_size (second % 4)) × (result ≤ 4096) }
 {
     let split = second % 4;
     if split == 1 {
@@ -41,7 +41,7 @@ pub fn tx_size(second: u16) -> usize
 
 // The receiver's part.
 pub fn rx_size(second: u16) -> usize
-    ensures { (result ≡ rxSize (second % 4)) × (result ≤ 6144) }
+    ensures { (result ≡ rx_size (second % 4)) × (result ≤ 6144) }
 {
     let split = second % 4;
     if split == 1 {
@@ -63,8 +63,8 @@ fn shown(zero: u16, weight: u16, flag: bool) -> u16
 
 // The Status word.
 pub fn status_of(s: Select, f: Flags) -> u16
-    requires { selectSound s ≡ true }
-    ensures { result ≡ statusOf s f }
+    requires { select_sound s ≡ true }
+    ensures { result ≡ status_of s f }
 {
     let zero = s.zero;
     s.window * WINDOW
@@ -80,7 +80,7 @@ pub fn status_of(s: Select, f: Flags) -> u16
 // Whether a flag is in the interrupt mask and visible.
 fn rises(s: Select, weight: u16, flag: bool) -> bool
     requires { 0 < weight }
-    ensures { result ≡ risesOf s weight flag }
+    ensures { result ≡ rises_of s weight flag }
 {
     bits::has(s.mask, weight) & (bits::has(s.zero, weight) & flag)
 }
@@ -107,7 +107,7 @@ fn is_line(irq: u16) -> bool
 
 // The interrupt line that the card drives, 0 for none: the latch alone raises no line.
 pub fn interrupt_line(c: Card) -> u16
-    ensures { (ram dir : List ℕ) → result ≡ interruptLine (view c ram dir) }
+    ensures { (ram dir : List ℕ) → result ≡ interrupt_line (view c ram dir) }
 {
     let irq = c.config.resource / IRQ % 16;
     let driving = c.config.enabled & (!(c.select.window == 0) & is_line(irq));
@@ -119,7 +119,7 @@ pub fn interrupt_line(c: Card) -> u16
 
 // The masks, the window and the filter are in their ranges.
 fn select_sound(s: Select) -> bool
-    ensures { result ≡ selectSound s }
+    ensures { result ≡ select_sound s }
 {
     (s.window <= 7)
         & ((s.mask <= 254)
@@ -129,7 +129,7 @@ fn select_sound(s: Select) -> bool
 
 // The configuration registers at power-on: words 03h, 09h, 12h and 13h are loaded.
 fn loaded(words: [u16; 64]) -> Config
-    ensures { result ≡ (powerOn words 0).config }
+    ensures { result ≡ (power_on words 0).config }
 {
     Config {
         product: words[0x03],
@@ -144,7 +144,7 @@ fn loaded(words: [u16; 64]) -> Config
 // The receive side at power-on and after RX Reset: off and empty, with `size` bytes free. `wire` is what the wire is doing.
 pub fn quiet(size: usize, wire: u8) -> Receive
     requires { size ≤ 6144 }
-    ensures { result ≡ record { receiver = (rxEmpty wire).receiver; free = size; frames = 0 } }
+    ensures { result ≡ record { receiver = (rx_empty wire).receiver; free = size; frames = 0 } }
 {
     Receive {
         receiver: Receiver {
@@ -176,7 +176,7 @@ pub fn drained(size: usize) -> Fifo
 
 // Power-on with these EEPROM words; `wire` is what the wire is doing.
 pub fn power_on(words: [u16; 64], wire: u8) -> Card
-    ensures { Blank result (powerOn words wire) }
+    ensures { Blank result (power_on words wire) }
 {
     let id = idport::fresh(words);
     let outcomes = outcomes::fresh();
@@ -211,7 +211,7 @@ pub fn power_on(words: [u16; 64], wire: u8) -> Card
 
 // The flags of Status.
 pub fn flags_of(ram: &[u8], dir: &[u16], c: Card) -> Flags
-    requires { Held c ram.now dir.now × rx.Sound (rxSizeOf c) c.receive ram.now dir.now }
+    requires { Held c ram.now dir.now × rx.Sound (rx_size_of c) c.receive ram.now dir.now }
     ensures { result ≡ flags_of (view c ram.now dir.now) }
 {
     let size = rx_size(c.config.second);
@@ -231,7 +231,7 @@ pub fn flags_of(ram: &[u8], dir: &[u16], c: Card) -> Flags
 // The Status word of a card.
 pub fn status_word(ram: &[u8], dir: &[u16], c: Card) -> u16
     requires { Sound c ram.now dir.now }
-    ensures { result ≡ statusWord (view c ram.now dir.now) }
+    ensures { result ≡ status_word (view c ram.now dir.now) }
 {
     status_of(c.select, flags_of(ram, dir, c))
 }
@@ -239,7 +239,7 @@ pub fn status_word(ram: &[u8], dir: &[u16], c: Card) -> u16
 // RX Status.
 pub fn rx_status(ram: &[u8], dir: &[u16], c: Card) -> u16
     requires { Sound c ram.now dir.now }
-    ensures { result ≡ rxStatus c.receive.receiver.read (view c ram.now dir.now).rx.frames }
+    ensures { result ≡ rx_status c.receive.receiver.read (view c ram.now dir.now).rx.frames }
 {
     receive::rx_status(ram, dir, rx_size(c.config.second), c.receive)
 }
@@ -247,7 +247,7 @@ pub fn rx_status(ram: &[u8], dir: &[u16], c: Card) -> u16
 // The unread bytes of the oldest frame.
 pub fn unread(ram: &[u8], dir: &[u16], c: Card) -> i16
     requires { Sound c ram.now dir.now }
-    ensures { result ≡ unreadIn c.receive.receiver.read (view c ram.now dir.now).rx.frames }
+    ensures { result ≡ unread_in c.receive.receiver.read (view c ram.now dir.now).rx.frames }
 {
     receive::unread(ram, dir, rx_size(c.config.second), c.receive)
 }
@@ -269,7 +269,7 @@ fn settle_sides(ram: &[u8], dir: &[u16], c: Card) -> Card
 // What every step ends with, in full.
 fn settle_all(ram: &[u8], dir: &[u16], c: Card) -> Card
     requires { Held c ram.now dir.now × (kept (view c ram.now dir.now) ≡ true) }
-    ensures { Stands result ram.now dir.now (settleOf (view c ram.now dir.now)) }
+    ensures { Stands result ram.now dir.now (settle_of (view c ram.now dir.now)) }
 {
     let mut next = settle_sides(ram, dir, c);
     let f = flags_of(ram, dir, next);
@@ -281,7 +281,7 @@ fn settle_all(ram: &[u8], dir: &[u16], c: Card) -> Card
 // Whether it is plain that nothing is due: RX Early is settled, TX Available is known without TX Free, and the latch stands or no interrupt is enabled.
 fn is_quiet(ram: &[u8], dir: &[u16], c: Card) -> bool
     requires { Held c ram.now dir.now × (kept (view c ram.now dir.now) ≡ true) }
-    ensures { result ≡ true → settleOf (view c ram.now dir.now) ≡ view c ram.now dir.now }
+    ensures { result ≡ true → settle_of (view c ram.now dir.now) ≡ view c ram.now dir.now }
 {
     let size = rx_size(c.config.second);
     let early = receive::early_settled(ram, dir, size, c.receive.frames, c.receive.receiver);
@@ -293,7 +293,7 @@ fn is_quiet(ram: &[u8], dir: &[u16], c: Card) -> bool
 // What every step ends with: RX Early, then TX Available, then the latch. Most steps leave nothing due, and then the card is not copied.
 pub fn settle(ram: &[u8], dir: &[u16], c: Card) -> Card
     requires { Held c ram.now dir.now × (kept (view c ram.now dir.now) ≡ true) }
-    ensures { Stands result ram.now dir.now (settleOf (view c ram.now dir.now)) }
+    ensures { Stands result ram.now dir.now (settle_of (view c ram.now dir.now)) }
 {
     if is_quiet(ram, dir, c) {
         return c;
@@ -304,7 +304,7 @@ pub fn settle(ram: &[u8], dir: &[u16], c: Card) -> Card
 // The test of soundness that every public call makes.
 pub fn is_sound(ram: &[u8], dir: &[u16], c: Card) -> bool
     requires { (length ram.now ≡ 8192) × (length dir.now ≡ 1110) }
-    ensures { result ≡ soundCard c ram.now dir.now }
+    ensures { result ≡ sound_card c ram.now dir.now }
 {
     let second = c.config.second;
     if !receive::rx_sound(ram, dir, rx_size(second), c.receive) {
@@ -325,7 +325,7 @@ pub fn is_sound(ram: &[u8], dir: &[u16], c: Card) -> bool
 
 // Global Reset.
 pub fn reset(c: Card) -> Card
-    ensures { Does c result resetOf }
+    ensures { Does c result reset_of }
 {
     let words = c.id.words;
     let wire = receive::deafen(c.receive.receiver.wire);

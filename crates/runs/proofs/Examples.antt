@@ -4,43 +4,43 @@ use mathlib.Core.Path.{◌≡◌, refl}
 use mathlib.Core.Bool.{true}
 use mathlib.Core.List.{[], ◌∷◌}
 use lib.ListN.{replicate}
-use Rattle.port_rules.specs.Sound.{idSound}
-use Rattle.receive_rules.specs.Frame.{isComing, room}
-use Rattle.receive_rules.specs.Update.{withOn, withWire}
+use Rattle.port_rules.specs.Sound.{id_sound}
+use Rattle.receive_rules.specs.Frame.{is_coming, room}
+use Rattle.receive_rules.specs.Update.{with_on, with_wire}
 use Rattle.receive_rules.specs.Wire as wire
 use Rattle.receive_rules.specs.Reading.{complete, readable}
-use Rattle.receive_rules.specs.Early.{earlyFlag, toldFlag}
-use Rattle.receive_rules.specs.Sound.{inOrder, earlySettled}
+use Rattle.receive_rules.specs.Early.{early_flag, told_flag}
+use Rattle.receive_rules.specs.Sound.{in_order, early_settled}
 use Rattle.transmit_rules.specs.Queue as queue
-use Rattle.transmit_rules.specs.QueueSound.{allSized}
+use Rattle.transmit_rules.specs.QueueSound.{all_sized}
 use Rattle.transmit_rules.specs.Outcome.{some, due}
-use Rattle.card_rules.specs.Update.{withRx}
-use Rattle.card_rules.specs.Room.{rxSize, txSize}
+use Rattle.card_rules.specs.Update.{with_rx}
+use Rattle.card_rules.specs.Room.{rx_size, tx_size}
 use Rattle.card_rules.specs.Status.{interrupting}
 use Rattle.card_rules.specs.Settle.{settle}
-use Rattle.card_rules.specs.Power.{powerOn}
-use Rattle.card_rules.specs.Sound.{selectSound}
+use Rattle.card_rules.specs.Power.{power_on}
+use Rattle.card_rules.specs.Sound.{select_sound}
 use Rattle.card_rules.specs.Event as card
-use Rattle.driver_rules.specs.Driver.{neverOpened}
-use Rattle.runs.specs.Run.{Bench, soundBench, Start, refused, next, said}
+use Rattle.driver_rules.specs.Driver.{never_opened}
+use Rattle.runs.specs.Run.{Bench, sound_bench, Start, refused, next, said}
 
 -- the first 8 bytes of a frame have come, at a card that is not active any more
 inside : Bench
 inside =
-    let a = powerOn (replicate 64 0) 0 in
+    let a = power_on (replicate 64 0) 0 in
     record {
-      adapter = withRx (record { receiver = withWire 2 (withOn true a.rx.receiver); frames = wire.fresh (replicate 8 0) ∷ [] }) a;
-      driver = neverOpened;
+      adapter = with_rx (record { receiver = with_wire 2 (with_on true a.rx.receiver); frames = wire.fresh (replicate 8 0) ∷ [] }) a;
+      driver = never_opened;
     }
 
-sound-inside : soundBench inside ≡ true
-unfolding inside powerOn room inOrder readable isComing earlySettled complete earlyFlag toldFlag queue.room queue.free allSized some due rxSize txSize interrupting selectSound idSound
-sound-inside = refl
+sound_inside : sound_bench inside ≡ true
+unfolding inside power_on room in_order readable is_coming early_settled complete early_flag told_flag queue.room queue.free all_sized some due rx_size tx_size interrupting select_sound id_sound
+sound_inside = refl
 
-refused-inside : said (Start (replicate 8 0) refl) inside ≡ refused 11 ∷ []
-unfolding said inside powerOn
-refused-inside = refl
+refused_inside : said (Start (replicate 8 0) refl) inside ≡ refused 11 ∷ []
+unfolding said inside power_on
+refused_inside = refl
 
-sound-still : soundBench (next (Start (replicate 8 0) refl) inside) ≡ true
-unfolding next inside card.wireStart wire.wireStart wire.begins settle powerOn room inOrder readable isComing earlySettled complete earlyFlag toldFlag queue.room queue.free allSized some due rxSize txSize interrupting selectSound idSound
-sound-still = refl
+sound_still : sound_bench (next (Start (replicate 8 0) refl) inside) ≡ true
+unfolding next inside card.wire_start wire.wire_start wire.begins settle power_on room in_order readable is_coming early_settled complete early_flag told_flag queue.room queue.free all_sized some due rx_size tx_size interrupting select_sound id_sound
+sound_still = refl

@@ -1,11 +1,11 @@
 // The operands of a line.
 ghost use Rattle.std.specs.Prelude.{◌≡◌, ◌≤◌, length};
-ghost use Rattle.bench_rules.specs.Script.{nothingLine, unknownLine, plainLine, operandOf, numberLine, pairLine, tripleLine, flagOf, flagLine, exactLine, countedLine, byteLine, operandLine, numbersLine, count_of, Spells};
+ghost use Rattle.bench_rules.specs.Script.{nothing_line, unknown_line, plain_line, operand_of, number_line, pair_line, triple_line, flag_of, flag_line, exact_line, counted_line, byte_line, operand_line, numbers_line, count_of, Spells};
 
 use bench_rules::{Kind, Line, Spelled};
 
 pub fn nothing() -> Line
-    ensures { result ≡ nothingLine }
+    ensures { result ≡ nothing_line }
 {
     Line {
         kind: Kind::Nothing,
@@ -17,7 +17,7 @@ pub fn nothing() -> Line
 }
 
 fn unknown() -> Line
-    ensures { result ≡ unknownLine }
+    ensures { result ≡ unknown_line }
 {
     Line {
         kind: Kind::Unknown,
@@ -49,7 +49,7 @@ pub fn count(one: usize, two: usize, three: usize, more: usize) -> u8
 
 // No operand.
 fn plain(kind: Kind, count: u8) -> Line
-    ensures { result ≡ plainLine kind count }
+    ensures { result ≡ plain_line kind count }
 {
     if count != 0 {
         return unknown();
@@ -65,9 +65,9 @@ fn plain(kind: Kind, count: u8) -> Line
 
 // The number that a word spells, if it is at most `most`; otherwise 65,536.
 fn operand(word: &[u8], base: u32, most: u32) -> u32
-    ensures { (result ≡ operandOf base most word.now) × (result ≤ 65536) }
+    ensures { (result ≡ operand_of base most word.now) × (result ≤ 65536) }
 {
-    let n = hex::number(word, base);
+    let n = hex_text::number(word, base);
     if n > most {
         return 65536;
     }
@@ -76,7 +76,7 @@ fn operand(word: &[u8], base: u32, most: u32) -> u32
 
 // A number in base 16 or 10.
 fn one_number(kind: Kind, base: u32, count: u8, one: &[u8]) -> Line
-    ensures { result ≡ numberLine kind base count one.now }
+    ensures { result ≡ number_line kind base count one.now }
 {
     if count != 1 {
         return unknown();
@@ -96,7 +96,7 @@ fn one_number(kind: Kind, base: u32, count: u8, one: &[u8]) -> Line
 
 // Two numbers, the second at most `most`.
 fn two_numbers(kind: Kind, most: u32, count: u8, one: &[u8], two: &[u8]) -> Line
-    ensures { result ≡ pairLine kind most count one.now two.now }
+    ensures { result ≡ pair_line kind most count one.now two.now }
 {
     if count != 2 {
         return unknown();
@@ -128,7 +128,7 @@ fn three_numbers(
     two: &[u8],
     three: &[u8],
 ) -> Line
-    ensures { result ≡ tripleLine kind base most count one.now two.now three.now }
+    ensures { result ≡ triple_line kind base most count one.now two.now three.now }
 {
     if count != 3 {
         return unknown();
@@ -156,7 +156,7 @@ fn three_numbers(
 
 // A flag, 0 or 1; 2 for a character that is none.
 fn flag(b: u8) -> u16
-    ensures { result ≡ flagOf b }
+    ensures { result ≡ flag_of b }
 {
     if b == b'0' {
         return 0;
@@ -169,7 +169,7 @@ fn flag(b: u8) -> u16
 
 // Two flags in one word.
 fn flags(count: u8, one: &[u8]) -> Line
-    ensures { result ≡ flagLine count one.now }
+    ensures { result ≡ flag_line count one.now }
 {
     if count != 1 {
         return unknown();
@@ -196,12 +196,12 @@ fn flags(count: u8, one: &[u8]) -> Line
 
 // A byte string; `exact` is how many bytes it must have, 0 if any number will do.
 fn byte_string(kind: Kind, exact: usize, count: u8, one: &[u8], bytes: &mut [u8]) -> Line
-    ensures { Spells (byteLine kind exact count (length bytes.old) one.now) one.now (length bytes.old) result bytes.new }
+    ensures { Spells (byte_line kind exact count (length bytes.old) one.now) one.now (length bytes.old) result bytes.new }
 {
     if count != 1 {
         return unknown();
     }
-    match hex::pairs(one, bytes) {
+    match hex_text::pairs(one, bytes) {
         Spelled::Wrong => unknown(),
         Spelled::Bytes(n) => counted(kind, exact, n),
     }
@@ -209,7 +209,7 @@ fn byte_string(kind: Kind, exact: usize, count: u8, one: &[u8], bytes: &mut [u8]
 
 // A byte string of n bytes, if that is right.
 fn counted(kind: Kind, exact: usize, n: usize) -> Line
-    ensures { result ≡ countedLine kind exact n }
+    ensures { result ≡ counted_line kind exact n }
 {
     if exact != 0 {
         return exactly(kind, exact, n);
@@ -224,7 +224,7 @@ fn counted(kind: Kind, exact: usize, n: usize) -> Line
 }
 
 fn exactly(kind: Kind, exact: usize, n: usize) -> Line
-    ensures { result ≡ exactLine kind exact n }
+    ensures { result ≡ exact_line kind exact n }
 {
     if n != exact {
         return unknown();
@@ -240,7 +240,7 @@ fn exactly(kind: Kind, exact: usize, n: usize) -> Line
 
 // What a line asks for, by its kind.
 pub fn line(kind: Kind, count: u8, one: &[u8], two: &[u8], three: &[u8], bytes: &mut [u8]) -> Line
-    ensures { Spells (operandLine kind count (length bytes.old) one.now two.now three.now) one.now (length bytes.old) result bytes.new }
+    ensures { Spells (operand_line kind count (length bytes.old) one.now two.now three.now) one.now (length bytes.old) result bytes.new }
 {
     match kind {
         Kind::Power => byte_string(kind, 128, count, one, bytes),
@@ -269,7 +269,7 @@ pub fn line(kind: Kind, count: u8, one: &[u8], two: &[u8], three: &[u8], bytes: 
 
 // What a line without a byte string asks for.
 fn numbers(kind: Kind, count: u8, one: &[u8], two: &[u8], three: &[u8]) -> Line
-    ensures { result ≡ numbersLine kind count one.now two.now three.now }
+    ensures { result ≡ numbers_line kind count one.now two.now three.now }
 {
     match kind {
         Kind::ReadWord => one_number(kind, 16, count, one),

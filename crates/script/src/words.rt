@@ -1,6 +1,6 @@
 // The words of a line. A blank is a space or a tab; a # starts a comment.
 ghost use Rattle.std.specs.Prelude.{◌≡◌, ◌≤◌, length};
-ghost use Rattle.bench_rules.specs.Script.{is_of, reachOf, word_of, next_of, begunOf};
+ghost use Rattle.bench_rules.specs.Script.{is_of, reach_of, word_of, next_of, begun_of};
 
 const BLANK: u8 = 0;
 
@@ -23,7 +23,7 @@ fn is(class: u8, b: u8) -> bool
 
 // How far it is to the first character of a class; to the end if there is none.
 fn reach(s: &[u8], class: u8) -> usize
-    ensures { (result ≡ reachOf class s.now) × (result ≤ length s.now) }
+    ensures { (result ≡ reach_of class s.now) × (result ≤ length s.now) }
 {
     let mut i: usize = 0;
     while i < s.len() {
@@ -55,7 +55,7 @@ pub fn next(s: &[u8]) -> &[u8]
 
 // From the first word on, without the comment.
 pub fn begun(s: &[u8]) -> &[u8]
-    ensures { result.now ≡ begunOf s.now }
+    ensures { result.now ≡ begun_of s.now }
 {
     let n = reach(s, HASH);
     let text = &s[..n];

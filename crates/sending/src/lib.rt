@@ -3,9 +3,9 @@ ghost use Rattle.std.specs.Prelude.{◌≡◌, ◌≤◌, length};
 ghost use Rattle.card_rules.specs.View.{view, Sound, Stands};
 ghost use Rattle.driver_rules.specs.declared.SendAnswer.TheVariants.{Refused, Ticket};
 ghost use Rattle.driver_rules.specs.Driver.{sending};
-ghost use Rattle.driver_rules.specs.Packet.{packetWords};
-ghost use Rattle.driver_rules.specs.Talk.{run, words_of, afterWrites};
-ghost use Rattle.driver_rules.specs.Send.{sendTalk};
+ghost use Rattle.driver_rules.specs.Packet.{packet_words};
+ghost use Rattle.driver_rules.specs.Talk.{run, words_of, after_writes};
+ghost use Rattle.driver_rules.specs.Send.{send_talk};
 ghost use Rattle.driver_rules.specs.Sends.{Sends};
 
 use card_rules::Card;
@@ -18,7 +18,7 @@ const COMPLETION: u16 = 0x8000;
 // The first `words` words of a packet, padded with zeros, to the data port.
 fn write_data(ram: &mut [u8], dir: &mut [u16], c: Card, packet: &[u8], words: usize) -> Card
     requires { Sound c ram.old dir.old × (words ≤ 1000) }
-    ensures { Stands result ram.new dir.new (afterWrites (words_of words packet.now) (view c ram.old dir.old)) }
+    ensures { Stands result ram.new dir.new (after_writes (words_of words packet.now) (view c ram.old dir.old)) }
 {
     let mut at = c;
     let mut i: usize = 0;
@@ -35,7 +35,7 @@ fn write_data(ram: &mut [u8], dir: &mut [u16], c: Card, packet: &[u8], words: us
 // A packet: both preamble words with bit 15, and the data padded with zeros.
 fn write_packet(ram: &mut [u8], dir: &mut [u16], c: Card, packet: &[u8]) -> Card
     requires { Sound c ram.old dir.old × (length packet.now ≤ 1514) }
-    ensures { Stands result ram.new dir.new (afterWrites (packetWords packet.now) (view c ram.old dir.old)) }
+    ensures { Stands result ram.new dir.new (after_writes (packet_words packet.now) (view c ram.old dir.old)) }
 {
     let n = packet.len();
     let first = steps::write_word(ram, dir, c, driver_rules::DATA, COMPLETION + n as u16);
@@ -76,7 +76,7 @@ fn ticketed(c: Card, d: Driver) -> Sent
 // A packet is written only after every refusal was passed.
 pub fn send(ram: &mut [u8], dir: &mut [u16], c: Card, d: Driver, packet: &[u8]) -> Sent
     requires { Sound c ram.old dir.old }
-    ensures { Sends (run (sendTalk d packet.now) (view c ram.old dir.old)) c ram.old dir.old result ram.new dir.new }
+    ensures { Sends (run (send_talk d packet.now) (view c ram.old dir.old)) c ram.old dir.old result ram.new dir.new }
 {
     let n = packet.len();
     if !d.opened {

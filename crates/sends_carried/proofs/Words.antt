@@ -15,7 +15,7 @@ use Rattle.transmit_rules.specs.Whole.{puts, bytes_of}
 use Rattle.transmit_rules.proofs.Put.{put-opens}
 use Rattle.transmit_rules.proofs.Whole.{written-whole}
 use Rattle.driver_rules.specs.Talk.{words_of}
-use Rattle.driver_rules.specs.Packet.{packetWords}
+use Rattle.driver_rules.specs.Packet.{packet_words}
 use Rattle.sends_carried.specs.Packets.{are_bytes, stored}
 
 words-length : (m : ℕ) (p : List ℕ) → length (words_of m p) ≡ m
@@ -78,7 +78,7 @@ module _ (p : List ℕ) (long : 14 ≤ length p) (short : length p ≤ 1514) whe
         ∙ written-whole size w 0 v vs q.packets fits (omega (arith, says)) (omega (arith, says, sum))
         ∙ (λ j. record { failed = false; packets = q.packets ++ (begun (flagged j) (t j) ∷ []); part = no_part })
 
-    pub packet-whole : puts size (packetWords p) q ≡ record { failed = false; packets = q.packets ++ (stored p ∷ []); part = no_part }
+    pub packet-whole : puts size (packet_words p) q ≡ record { failed = false; packets = q.packets ++ (stored p ∷ []); part = no_part }
     unfolding words_of
     packet-whole =
         let h : round4 (length p) / 2 ≡ suc (round4 (length p) / 2 - 1) = omega arith in

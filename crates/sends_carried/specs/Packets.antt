@@ -5,7 +5,7 @@ use Rattle.store.specs.Store.{Frame, round4}
 use Rattle.transmit_rules.specs.Leave as leave
 use Rattle.transmit_rules.specs.Tx.{ready}
 use Rattle.card_rules.specs.Adapter.{Adapter}
-use Rattle.card_rules.specs.Room.{txFree}
+use Rattle.card_rules.specs.Room.{tx_free}
 use Rattle.card_rules.specs.Status.{failure, shows}
 use Rattle.driver_rules.specs.declared.SendAnswer.{SendAnswer}
 use Rattle.driver_rules.specs.declared.SendAnswer.TheVariants.{Ticket, Refused}
@@ -35,8 +35,8 @@ packets b = b.adapter.tx.queue.packets
 
 -- No transmit failure stands, and no packet is half written.
 pub record Clear (b : Bench) : Type 0 where
-  pub no-failure : b.adapter.tx.queue.failed ≡ false
-  pub none-half-written : b.adapter.tx.queue.part.words ≡ 0
+  pub no_failure : b.adapter.tx.queue.failed ≡ false
+  pub none_half_written : b.adapter.tx.queue.part.words ≡ 0
 
 -- ---- a send
 
@@ -45,13 +45,13 @@ abbrev pub fit : Adapter → Bool
 fit a = a.id.active && (eqb a.select.window 1 && not (shows 2 a.select.zero (failure a)))
 
 -- What a send answers: refused 13, 2, 3, 5, 4, first that holds wins; else the ticket.
-unfoldable pub answerTo : List ℕ → Bench → SendAnswer
-answerTo packet b =
+unfoldable pub answer_to : List ℕ → Bench → SendAnswer
+answer_to packet b =
     cond (not b.driver.opened) (Refused NeverOpened)
     (cond (outside (length packet)) (Refused LengthOutside)
     (cond (ltb 15 b.driver.unreported) (Refused SixteenUnreported)
     (cond (not (fit b.adapter)) (Refused CardUnfit)
-    (cond (ltb (txFree b.adapter) (4 + round4 (length packet))) (Refused NoRoom)
+    (cond (ltb (tx_free b.adapter) (4 + round4 (length packet))) (Refused NoRoom)
     (Ticket b.driver.sent)))))
 
 -- a send is answered by a ticket
@@ -74,16 +74,16 @@ accepted [] b = []
 accepted (e ∷ es) b = accepts e b ++ accepted es (next e b)
 
 -- every packet that is handed to a send is bytes
-unfoldable pub sendsBytes : List Event → Bool
-sendsBytes [] = true
-sendsBytes (Start first eight ∷ es) = sendsBytes es
-sendsBytes (Byte v ∷ es) = sendsBytes es
-sendsBytes (End check alignment ∷ es) = sendsBytes es
-sendsBytes (Sent ∷ es) = sendsBytes es
-sendsBytes (Collided ∷ es) = sendsBytes es
-sendsBytes (Open w₀ w₁ w₂ ∷ es) = sendsBytes es
-sendsBytes (Send packet ∷ es) = are_bytes packet && sendsBytes es
-sendsBytes (Service budget s ∷ es) = sendsBytes es
+unfoldable pub sends_bytes : List Event → Bool
+sends_bytes [] = true
+sends_bytes (Start first eight ∷ es) = sends_bytes es
+sends_bytes (Byte v ∷ es) = sends_bytes es
+sends_bytes (End check alignment ∷ es) = sends_bytes es
+sends_bytes (Sent ∷ es) = sends_bytes es
+sends_bytes (Collided ∷ es) = sends_bytes es
+sends_bytes (Open w₀ w₁ w₂ ∷ es) = sends_bytes es
+sends_bytes (Send packet ∷ es) = are_bytes packet && sends_bytes es
+sends_bytes (Service budget s ∷ es) = sends_bytes es
 
 -- ---- a packet that leaves: by success, or after 16 collisions
 
@@ -110,19 +110,19 @@ unfoldable pub gone : List Event → Bench → List Gone
 gone [] b = []
 gone (e ∷ es) b = leaves e b ++ gone es (next e b)
 
-unfoldable pub allSucceed : List Gone → Bool
-allSucceed [] = true
-allSucceed (g ∷ gs) = g.success && allSucceed gs
+unfoldable pub all_succeed : List Gone → Bool
+all_succeed [] = true
+all_succeed (g ∷ gs) = g.success && all_succeed gs
 
 -- ---- the wire
 
 -- what it is told, by the answers of a run
-unfoldable pub onWire : List Said → List (List ℕ)
-onWire [] = []
-onWire (refused n ∷ xs) = onWire xs
-onWire (told bytes ∷ xs) = bytes ∷ onWire xs
-onWire (answered p ∷ xs) = onWire xs
-onWire (served p bytes s ∷ xs) = onWire xs
+unfoldable pub on_wire : List Said → List (List ℕ)
+on_wire [] = []
+on_wire (refused n ∷ xs) = on_wire xs
+on_wire (told bytes ∷ xs) = bytes ∷ on_wire xs
+on_wire (answered p ∷ xs) = on_wire xs
+on_wire (served p bytes s ∷ xs) = on_wire xs
 
 -- what is told of the packets that left by success
 unfoldable pub successes : List Gone → List (List ℕ)

@@ -2,7 +2,7 @@
 ghost use Rattle.card_rules.specs.View.{view, Sound};
 ghost use Rattle.driver_rules.specs.Talk.{run};
 ghost use Rattle.driver_rules.specs.Meets.{Ready};
-ghost use Rattle.driver_rules.specs.Service.{lookTalk, receiveTalk};
+ghost use Rattle.driver_rules.specs.Service.{look_talk, receive_talk};
 ghost use Rattle.driver_rules.specs.Serves.{Meets, Unmoved};
 
 use card_rules::Card;
@@ -27,7 +27,7 @@ pub fn look(
     turns: usize,
 ) -> Served
     requires { Ready c ram.old dir.old ahead.old frame.old }
-    ensures { Meets result.paused left (run (lookTalk left d) (view c ram.old dir.old)) result (view result.card ram.new dir.new) ahead.old frame.old ahead.new frame.new × (Sound result.card ram.new dir.new × Unmoved (run (lookTalk left d) (view c ram.old dir.old)) c result.card ram.old dir.old ram.new dir.new) }
+    ensures { Meets result.paused left (run (look_talk left d) (view c ram.old dir.old)) result (view result.card ram.new dir.new) ahead.old frame.old ahead.new frame.new × (Sound result.card ram.new dir.new × Unmoved (run (look_talk left d) (view c ram.old dir.old)) c result.card ram.old dir.old ram.new dir.new) }
 {
     if left == 0 {
         return items::short(c, d, 0);
@@ -60,7 +60,7 @@ fn receive(
     turns: usize,
 ) -> Served
     requires { Ready c ram.old dir.old ahead.old frame.old }
-    ensures { Meets result.paused left (run (receiveTalk left d) (view c ram.old dir.old)) result (view result.card ram.new dir.new) ahead.old frame.old ahead.new frame.new × (Sound result.card ram.new dir.new × Unmoved (run (receiveTalk left d) (view c ram.old dir.old)) c result.card ram.old dir.old ram.new dir.new) }
+    ensures { Meets result.paused left (run (receive_talk left d) (view c ram.old dir.old)) result (view result.card ram.new dir.new) ahead.old frame.old ahead.new frame.new × (Sound result.card ram.new dir.new × Unmoved (run (receive_talk left d) (view c ram.old dir.old)) c result.card ram.old dir.old ram.new dir.new) }
 {
     if left == 0 {
         return items::short(c, d, 0);

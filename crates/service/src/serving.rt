@@ -2,7 +2,7 @@
 ghost use Rattle.card_rules.specs.View.{view, Sound};
 ghost use Rattle.driver_rules.specs.Talk.{run};
 ghost use Rattle.driver_rules.specs.Meets.{Ready};
-ghost use Rattle.driver_rules.specs.Service.{lookTalk};
+ghost use Rattle.driver_rules.specs.Service.{look_talk};
 ghost use Rattle.driver_rules.specs.Serves.{Unmoved};
 ghost use Rattle.driver_rules.specs.Serving.{Serves};
 
@@ -23,7 +23,7 @@ pub fn serve(
     budget: usize,
 ) -> Serviced
     requires { Ready c ram.old dir.old ahead.old frame.old }
-    ensures { Serves (run (lookTalk budget d) (view c ram.old dir.old)) result (view result.card ram.new dir.new) ahead.old frame.old ahead.new frame.new × (Sound result.card ram.new dir.new × Unmoved (run (lookTalk budget d) (view c ram.old dir.old)) c result.card ram.old dir.old ram.new dir.new) }
+    ensures { Serves (run (look_talk budget d) (view c ram.old dir.old)) result (view result.card ram.new dir.new) ahead.old frame.old ahead.new frame.new × (Sound result.card ram.new dir.new × Unmoved (run (look_talk budget d) (view c ram.old dir.old)) c result.card ram.old dir.old ram.new dir.new) }
 {
     let mut at = c;
     let mut driver = d;

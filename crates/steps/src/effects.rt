@@ -1,14 +1,14 @@
 // What a step of the card does before it is settled, where that is more than a call.
 ghost use Rattle.std.specs.Prelude.{◌≡◌, ◌%◌, ◌≤◌, ◌<◌, length};
 ghost use Rattle.receive_rules.specs.Wire as wire;
-ghost use Rattle.receive_rules.specs.Reading.{dataWord, afterRead};
-ghost use Rattle.transmit_rules.specs.Leave.{toldOf};
+ghost use Rattle.receive_rules.specs.Reading.{data_word, after_read};
+ghost use Rattle.transmit_rules.specs.Leave.{told_of};
 ghost use Rattle.transmit_rules.specs.QueueView.{Tells};
 ghost use Rattle.transmit_rules.specs.Tx as tx;
-ghost use Rattle.card_rules.specs.Update.{withRx, withTx, linesLow};
-ghost use Rattle.card_rules.specs.Groups.{cardReceive, cardLines};
-ghost use Rattle.card_rules.specs.View.{rxSizeOf, view, Sound, Is};
-ghost use Rattle.card_rules.specs.Write.{writeWord, writeByte, executed};
+ghost use Rattle.card_rules.specs.Update.{with_rx, with_tx, lines_low};
+ghost use Rattle.card_rules.specs.Groups.{card_receive, card_lines};
+ghost use Rattle.card_rules.specs.View.{rx_size_of, view, Sound, Is};
+ghost use Rattle.card_rules.specs.Write.{write_word, write_byte, executed};
 ghost use Rattle.card_rules.specs.Effect.{taken as taken_of};
 
 use card_rules::{Card, Gone, Got, Lanes};
@@ -16,8 +16,8 @@ use card_rules::{Card, Gone, Got, Lanes};
 // A word of the data port.
 pub fn take_word(ram: &[u8], dir: &[u16], c: Card) -> Got
     requires { Sound c ram.now dir.now }
-    ensures value_value { result.value ≡ dataWord (view c ram.now dir.now).rx }
-    ensures is { Is result.card ram.now dir.now (withRx (afterRead (view c ram.now dir.now).rx) (view c ram.now dir.now)) }
+    ensures value_value { result.value ≡ data_word (view c ram.now dir.now).rx }
+    ensures is { Is result.card ram.now dir.now (with_rx (after_read (view c ram.now dir.now).rx) (view c ram.now dir.now)) }
 {
     let got = receive::read_data(ram, dir, regs::rx_size(c.config.second), c.receive);
     let word = got.word;
@@ -33,7 +33,7 @@ pub fn take_word(ram: &[u8], dir: &[u16], c: Card) -> Got
 // A word written: a command at 0Eh, or a register.
 pub fn write_word(ram: &mut [u8], dir: &mut [u16], c: Card, o: u16, v: u16) -> Card
     requires { Sound c ram.old dir.old × (o % 2 ≡ 0) }
-    ensures { Is result ram.new dir.new (writeWord o v (view c ram.old dir.old)) }
+    ensures { Is result ram.new dir.new (write_word o v (view c ram.old dir.old)) }
 {
     if o == 0x0e {
         return commands::commanded(ram, dir, c, v);
@@ -43,7 +43,7 @@ pub fn write_word(ram: &mut [u8], dir: &mut [u16], c: Card, o: u16, v: u16) -> C
 
 // The low byte of a command is held.
 fn hold(c: Card, v: u8) -> Card
-    ensures { result ≡ cardLines (linesLow v c.lines) c }
+    ensures { result ≡ card_lines (lines_low v c.lines) c }
 {
     let mut next = c;
     next.lines.low = v;
@@ -63,7 +63,7 @@ fn execute(ram: &mut [u8], dir: &mut [u16], c: Card, v: u8) -> Card
 // A byte written.
 pub fn write_byte(ram: &mut [u8], dir: &mut [u16], c: Card, o: u16, v: u8) -> Card
     requires { Sound c ram.old dir.old }
-    ensures { Is result ram.new dir.new (writeByte o v (view c ram.old dir.old)) }
+    ensures { Is result ram.new dir.new (write_byte o v (view c ram.old dir.old)) }
 {
     if o == 0x0e {
         return hold(c, v);
@@ -80,7 +80,7 @@ pub fn write_byte(ram: &mut [u8], dir: &mut [u16], c: Card, o: u16, v: u8) -> Ca
 
 // The card with another receive side.
 fn with_receive(c: Card, receive: receive_rules::Receive) -> Card
-    ensures { result ≡ cardReceive receive c }
+    ensures { result ≡ card_receive receive c }
 {
     let mut next = c;
     next.receive = receive;
@@ -90,7 +90,7 @@ fn with_receive(c: Card, receive: receive_rules::Receive) -> Card
 // A frame starts.
 pub fn wire_start(ram: &mut [u8], dir: &mut [u16], c: Card, first: [u8; 8]) -> Card
     requires { Sound c ram.old dir.old × (c.receive.receiver.wire ≡ 0) }
-    ensures { Is result ram.new dir.new (withRx (wire.wireStart (rxSizeOf c) (taken_of first (view c ram.old dir.old)) first (view c ram.old dir.old).rx) (view c ram.old dir.old)) }
+    ensures { Is result ram.new dir.new (with_rx (wire.wire_start (rx_size_of c) (taken_of first (view c ram.old dir.old)) first (view c ram.old dir.old).rx) (view c ram.old dir.old)) }
 {
     let filter = c.select.filter;
     let station = c.config.station;
@@ -109,7 +109,7 @@ pub fn wire_start(ram: &mut [u8], dir: &mut [u16], c: Card, first: [u8; 8]) -> C
 // The frame has a byte more.
 pub fn wire_byte(ram: &mut [u8], dir: &mut [u16], c: Card, b: u8) -> Card
     requires { Sound c ram.old dir.old }
-    ensures { Is result ram.new dir.new (withRx (wire.wireByte (rxSizeOf c) b (view c ram.old dir.old).rx) (view c ram.old dir.old)) }
+    ensures { Is result ram.new dir.new (with_rx (wire.wire_byte (rx_size_of c) b (view c ram.old dir.old).rx) (view c ram.old dir.old)) }
 {
     let receive = receive::wire_byte(ram, dir, regs::rx_size(c.config.second), c.receive, b);
     with_receive(c, receive)
@@ -118,7 +118,7 @@ pub fn wire_byte(ram: &mut [u8], dir: &mut [u16], c: Card, b: u8) -> Card
 // The frame ends.
 pub fn wire_end(ram: &mut [u8], dir: &mut [u16], c: Card, check: bool, alignment: bool) -> Card
     requires { Sound c ram.old dir.old }
-    ensures { Is result ram.new dir.new (withRx (wire.wireEnd check alignment (view c ram.old dir.old).rx) (view c ram.old dir.old)) }
+    ensures { Is result ram.new dir.new (with_rx (wire.wire_end check alignment (view c ram.old dir.old).rx) (view c ram.old dir.old)) }
 {
     let receive = receive::wire_end(
         ram,
@@ -134,8 +134,8 @@ pub fn wire_end(ram: &mut [u8], dir: &mut [u16], c: Card, check: bool, alignment
 // The oldest packet goes out.
 pub fn success(ram: &mut [u8], dir: &mut [u16], c: Card, out: &mut [u8]) -> Gone
     requires { Sound c ram.old dir.old × (0 < c.transmit.fifo.packets) × (1792 ≤ length out.old) }
-    ensures is { Is result.card ram.new dir.new (withTx (tx.success (view c ram.old dir.old).tx) (view c ram.old dir.old)) }
-    ensures tells { Tells result.n out.old out.new (toldOf (view c ram.old dir.old).tx.queue.packets) }
+    ensures is { Is result.card ram.new dir.new (with_tx (tx.success (view c ram.old dir.old).tx) (view c ram.old dir.old)) }
+    ensures tells { Tells result.n out.old out.new (told_of (view c ram.old dir.old).tx.queue.packets) }
 {
     let gone = transmit::success(ram, dir, regs::tx_size(c.config.second), c.transmit, out);
     let n = gone.n;
@@ -148,7 +148,7 @@ pub fn success(ram: &mut [u8], dir: &mut [u16], c: Card, out: &mut [u8]) -> Gone
 // The oldest packet is lost to 16 collisions.
 pub fn collisions(ram: &mut [u8], dir: &mut [u16], c: Card) -> Card
     requires { Sound c ram.old dir.old × (0 < c.transmit.fifo.packets) }
-    ensures { Is result ram.new dir.new (withTx (tx.collisions (view c ram.old dir.old).tx) (view c ram.old dir.old)) }
+    ensures { Is result ram.new dir.new (with_tx (tx.collisions (view c ram.old dir.old).tx) (view c ram.old dir.old)) }
 {
     let transmit = transmit::collisions(ram, dir, regs::tx_size(c.config.second), c.transmit);
     let mut next = c;

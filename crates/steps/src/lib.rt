@@ -1,11 +1,11 @@
 // The card's steps, without tests: what the public calls and the driver take for each access and event.
 ghost use Rattle.std.specs.Prelude.{◌≡◌, true, ◌%◌, ◌≤◌, ◌<◌, length};
-ghost use Rattle.port_rules.specs.Sound.{idSound};
-ghost use Rattle.transmit_rules.specs.Leave.{toldOf};
+ghost use Rattle.port_rules.specs.Sound.{id_sound};
+ghost use Rattle.transmit_rules.specs.Leave.{told_of};
 ghost use Rattle.transmit_rules.specs.QueueView.{Tells};
 ghost use Rattle.card_rules.specs.View.{view, Sound, Stands};
 ghost use Rattle.card_rules.specs.Access.{access, ReadWord, ReadByte, WriteWord, WriteByte};
-ghost use Rattle.card_rules.specs.Event.{wireStart, wireByte, wireEnd, success as successOf, collisions as collisionsOf, seat as seatOf};
+ghost use Rattle.card_rules.specs.Event.{wire_start, wire_byte, wire_end, success as success_of, collisions as collisions_of, seat as seat_of};
 ghost use Rattle.card_rules.specs.Gives.{Gives};
 
 use card_rules::{Card, Gone, Got};
@@ -93,7 +93,7 @@ pub fn write_byte(ram: &mut [u8], dir: &mut [u16], c: Card, o: u16, v: u8) -> Ca
 // The wire starts a frame with its first 8 bytes.
 pub fn wire_start(ram: &mut [u8], dir: &mut [u16], c: Card, first: [u8; 8]) -> Card
     requires { Sound c ram.old dir.old × (c.receive.receiver.wire ≡ 0) }
-    ensures { Stands result ram.new dir.new (wireStart first (view c ram.old dir.old)) }
+    ensures { Stands result ram.new dir.new (wire_start first (view c ram.old dir.old)) }
 {
     let started = effects::wire_start(ram, dir, c, first);
     regs::settle(ram, dir, started)
@@ -102,7 +102,7 @@ pub fn wire_start(ram: &mut [u8], dir: &mut [u16], c: Card, first: [u8; 8]) -> C
 // The wire brings a byte.
 pub fn wire_byte(ram: &mut [u8], dir: &mut [u16], c: Card, b: u8) -> Card
     requires { Sound c ram.old dir.old }
-    ensures { Stands result ram.new dir.new (wireByte b (view c ram.old dir.old)) }
+    ensures { Stands result ram.new dir.new (wire_byte b (view c ram.old dir.old)) }
 {
     let brought = effects::wire_byte(ram, dir, c, b);
     regs::settle(ram, dir, brought)
@@ -111,7 +111,7 @@ pub fn wire_byte(ram: &mut [u8], dir: &mut [u16], c: Card, b: u8) -> Card
 // The wire ends the frame, with its two flags.
 pub fn wire_end(ram: &mut [u8], dir: &mut [u16], c: Card, check: bool, alignment: bool) -> Card
     requires { Sound c ram.old dir.old }
-    ensures { Stands result ram.new dir.new (wireEnd check alignment (view c ram.old dir.old)) }
+    ensures { Stands result ram.new dir.new (wire_end check alignment (view c ram.old dir.old)) }
 {
     let ended = effects::wire_end(ram, dir, c, check, alignment);
     regs::settle(ram, dir, ended)
@@ -120,8 +120,8 @@ pub fn wire_end(ram: &mut [u8], dir: &mut [u16], c: Card, check: bool, alignment
 // A send outcome: success. The first `n` bytes of `out` are what the wire is told.
 pub fn success(ram: &mut [u8], dir: &mut [u16], c: Card, out: &mut [u8]) -> Gone
     requires { Sound c ram.old dir.old × (0 < c.transmit.fifo.packets) × (1792 ≤ length out.old) }
-    ensures stands { Stands result.card ram.new dir.new (successOf (view c ram.old dir.old)) }
-    ensures tells { Tells result.n out.old out.new (toldOf (view c ram.old dir.old).tx.queue.packets) }
+    ensures stands { Stands result.card ram.new dir.new (success_of (view c ram.old dir.old)) }
+    ensures tells { Tells result.n out.old out.new (told_of (view c ram.old dir.old).tx.queue.packets) }
 {
     let gone = effects::success(ram, dir, c, out);
     let n = gone.n;
@@ -132,7 +132,7 @@ pub fn success(ram: &mut [u8], dir: &mut [u16], c: Card, out: &mut [u8]) -> Gone
 // A send outcome: 16 collisions.
 pub fn collisions(ram: &mut [u8], dir: &mut [u16], c: Card) -> Card
     requires { Sound c ram.old dir.old × (0 < c.transmit.fifo.packets) }
-    ensures { Stands result ram.new dir.new (collisionsOf (view c ram.old dir.old)) }
+    ensures { Stands result ram.new dir.new (collisions_of (view c ram.old dir.old)) }
 {
     let collided = effects::collisions(ram, dir, c);
     regs::settle(ram, dir, collided)
@@ -140,8 +140,8 @@ pub fn collisions(ram: &mut [u8], dir: &mut [u16], c: Card) -> Card
 
 // An ID state is seated as the card's own.
 pub fn seat(ram: &[u8], dir: &[u16], c: Card, i: IdState) -> Card
-    requires { Sound c ram.now dir.now × (idSound i ≡ true) }
-    ensures { Stands result ram.now dir.now (seatOf i (view c ram.now dir.now)) }
+    requires { Sound c ram.now dir.now × (id_sound i ≡ true) }
+    ensures { Stands result ram.now dir.now (seat_of i (view c ram.now dir.now)) }
 {
     let seated = seating::seat(c, i);
     regs::settle(ram, dir, seated)

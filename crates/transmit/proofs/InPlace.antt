@@ -40,8 +40,8 @@ members = record { row = Array u8 31; ty = ty_array (ty_int w8) 31 } ∷ record 
 abbrev entries_at : List ℕ → ℕ → ℕ → Fml
 entries_at l b o = part_at (Array u8 31) full_share l b (o + 0)
 
-abbrev countAt : ℕ → ℕ → ℕ → Fml
-countAt n b o = part_at usize full_share n b (o + 32)
+abbrev count_at : ℕ → ℕ → ℕ → Fml
+count_at n b o = part_at usize full_share n b (o + 32)
 
 -- the struct's row has its array element by element
 each_same : (l : List ℕ) → map (λ (x : ℕ). x) l ≡ l
@@ -52,30 +52,30 @@ each_same (x ∷ l) = ap (λ (k : List ℕ). x ∷ k) (each_same l)
 abbrev pub Key : Type 0
 Key = (ℕ × GName) × (ℕ × GName)
 
-abbrev pub toEntries : Statuses → ℕ → ℕ → Key → MutBor (List ℕ)
-toEntries s b o k = record { ref_ptr = (b, o + 0); ghost_name = k.0.1; now = s.entries }
+abbrev pub to_entries : Statuses → ℕ → ℕ → Key → MutBor (List ℕ)
+to_entries s b o k = record { ref_ptr = (b, o + 0); ghost_name = k.0.1; now = s.entries }
 
-abbrev pub toCount : Statuses → ℕ → ℕ → Key → MutBor ℕ
-toCount s b o k = record { ref_ptr = (b, o + 32); ghost_name = k.1.1; now = s.count }
+abbrev pub to_count : Statuses → ℕ → ℕ → Key → MutBor ℕ
+to_count s b o k = record { ref_ptr = (b, o + 32); ghost_name = k.1.1; now = s.count }
 
-abbrev pub entriesPtr : ℕ → ℕ → List Val
-entriesPtr b o = vptr b (o + 0) ∷ []
+abbrev pub entries_ptr : ℕ → ℕ → List Val
+entries_ptr b o = vptr b (o + 0) ∷ []
 
-abbrev pub countPtr : ℕ → ℕ → List Val
-countPtr b o = vptr b (o + 32) ∷ []
+abbrev pub count_ptr : ℕ → ℕ → List Val
+count_ptr b o = vptr b (o + 32) ∷ []
 
-abbrev pub entriesRef : Statuses → ℕ → ℕ → Key → Fml
-entriesRef s b o k = (MutRef (named 0) (k.0.0 ∷ []) (Array u8 31)).own_val (toEntries s b o k) (entriesPtr b o)
+abbrev pub entries_ref : Statuses → ℕ → ℕ → Key → Fml
+entries_ref s b o k = (MutRef (named 0) (k.0.0 ∷ []) (Array u8 31)).own_val (to_entries s b o k) (entries_ptr b o)
 
-abbrev pub countRef : Statuses → ℕ → ℕ → Key → Fml
-countRef s b o k = (MutRef (named 1) (k.1.0 ∷ []) usize).own_val (toCount s b o k) (countPtr b o)
+abbrev pub count_ref : Statuses → ℕ → ℕ → Key → Fml
+count_ref s b o k = (MutRef (named 1) (k.1.0 ∷ []) usize).own_val (to_count s b o k) (count_ptr b o)
 
 -- what the lender of each keeps
-abbrev entriesLent : ℕ → ℕ → Key → Fml
-entriesLent b o k = flent (k.0.0 ∷ []) (Body (mem (Array u8 31)) b (o + 0) k.0.1)
+abbrev entries_lent : ℕ → ℕ → Key → Fml
+entries_lent b o k = flent (k.0.0 ∷ []) (Body (mem (Array u8 31)) b (o + 0) k.0.1)
 
-abbrev countLent : ℕ → ℕ → Key → Fml
-countLent b o k = flent (k.1.0 ∷ []) (Body (mem usize) b (o + 32) k.1.1)
+abbrev count_lent : ℕ → ℕ → Key → Fml
+count_lent b o k = flent (k.1.0 ∷ []) (Body (mem usize) b (o + 32) k.1.1)
 
 module _ {M : Type 1} {𝓤 : Ura M} (𝓛 : Logic 𝓤) where
   open 𝓛 use {H, A}
@@ -102,7 +102,7 @@ module _ {M : Type 1} {𝓤 : Ura M} (𝓛 : Logic 𝓤) where
   module _ (b o : ℕ) where
     -- the way back to the stack s
     abbrev Way : Statuses → SProp 𝓤
-    Way s = wand 𝓤 (sep 𝓤 ⟦ entries_at s.entries b o ⟧ ⟦ countAt s.count b o ⟧) ⟦ part_at T.the_row full_share s b o ⟧
+    Way s = wand 𝓤 (sep 𝓤 ⟦ entries_at s.entries b o ⟧ ⟦ count_at s.count b o ⟧) ⟦ part_at T.the_row full_share s b o ⟧
 
     abbrev Tuples : SProp 𝓤
     Tuples = PartsBack 𝓛 full_share (T.the_type).name members b o
@@ -119,12 +119,12 @@ module _ {M : Type 1} {𝓤 : Ura M} (𝓛 : Logic 𝓤) where
     at s = all_e 𝓤 (λ (a : Denots (rows_of members)). wand 𝓤 ⟦ parts_at full_share members 0 a b o ⟧ ⟦ part_at (Struct (shape_of (T.the_type).name members)) full_share a b o ⟧) ((T.the_type).to s)
 
     ways : ent 𝓤 Tuples (all 𝓤 Way)
-    ways = all_i 𝓤 Way (λ s. wand_i 𝓤 Tuples (sep 𝓤 ⟦ entries_at s.entries b o ⟧ ⟦ countAt s.count b o ⟧) ⟦ part_at T.the_row full_share s b o ⟧
-        (qed 𝓛 (raw Tuples ∷ ‵ (entries_at s.entries b o) ∷ ‵ (countAt s.count b o) ∷ []) ∵ use1 𝓛 (raw (At s)) (at s) $ rewrite ! 1 (λ (l : List ℕ). ‵ (entries_at l b o)) (sym (each_same s.entries)) refl $
+    ways = all_i 𝓤 Way (λ s. wand_i 𝓤 Tuples (sep 𝓤 ⟦ entries_at s.entries b o ⟧ ⟦ count_at s.count b o ⟧) ⟦ part_at T.the_row full_share s b o ⟧
+        (qed 𝓛 (raw Tuples ∷ ‵ (entries_at s.entries b o) ∷ ‵ (count_at s.count b o) ∷ []) ∵ use1 𝓛 (raw (At s)) (at s) $ rewrite ! 1 (λ (l : List ℕ). ‵ (entries_at l b o)) (sym (each_same s.entries)) refl $
         nothing ! $ move ! (3 ∷ 0 ∷ []) $ fjoin ! $ move ! (2 ∷ 0 ∷ []) $ fjoin ! $
         use2 𝓛 (‵ (part_at T.the_row full_share s b o)) (apply∗ 𝓤 ⟦ parts_at full_share members 0 ((T.the_type).to s) b o ⟧ ⟦ part_at T.the_row full_share s b o ⟧) $ done !))
 
-    apart : (s : Statuses) → ent 𝓤 ⟦ part_at T.the_row full_share s b o ⟧ (sep 𝓤 ⟦ entries_at s.entries b o ⟧ (sep 𝓤 ⟦ countAt s.count b o ⟧ (all 𝓤 Way)))
+    apart : (s : Statuses) → ent 𝓤 ⟦ part_at T.the_row full_share s b o ⟧ (sep 𝓤 ⟦ entries_at s.entries b o ⟧ (sep 𝓤 ⟦ count_at s.count b o ⟧ (all 𝓤 Way)))
     apart s =
         qed 𝓛 (‵ (part_at T.the_row full_share s b o) ∷ []) ∵ use1 𝓛 (‵ (parts_at full_share members 0 ((T.the_type).to s) b o) ⊛ raw Tuples) (tuples s) $ split ! $ fsplit ! $
         rewrite ! 0 (λ (l : List ℕ). ‵ (entries_at l b o)) (each_same s.entries) refl $ move ! (1 ∷ []) $ fsplit ! $ move ! (3 ∷ []) $ use1 𝓛 (raw (all 𝓤 Way)) ways $
@@ -144,22 +144,22 @@ module _ {M : Type 1} {𝓤 : Ura M} (𝓛 : Logic 𝓤) where
     Tokens k = sep 𝓤 (A.lft (k.0.0 ∷ []) full_share) (sep 𝓤 (A.lft (k.1.0 ∷ []) full_share) (emp 𝓤))
 
     abbrev pub Handed : Statuses → Key → SProp 𝓤
-    Handed s k = sep 𝓤 (Tokens k) (sep 𝓤 ⟦ entriesRef s b o k ⟧ ⟦ countRef s b o k ⟧)
+    Handed s k = sep 𝓤 (Tokens k) (sep 𝓤 ⟦ entries_ref s b o k ⟧ ⟦ count_ref s b o k ⟧)
 
     abbrev pub Kept : Key → SProp 𝓤
-    Kept k = sep 𝓤 ⟦ entriesLent b o k ⟧ (sep 𝓤 ⟦ countLent b o k ⟧ (all 𝓤 Way))
+    Kept k = sep 𝓤 ⟦ entries_lent b o k ⟧ (sep 𝓤 ⟦ count_lent b o k ⟧ (all 𝓤 Way))
 
     abbrev Out : Statuses → Key → SProp 𝓤
     Out s k = guard 𝓤 (length s.entries ≡ 31) (sep 𝓤 (Handed s k) (Kept k))
 
     pub lends : (s : Statuses) → ent 𝓤 ⟦ part_at T.the_row full_share s b o ⟧ (H.⇛ (ex 𝓤 (Out s)))
     lends s =
-        qed 𝓛 (‵ (part_at T.the_row full_share s b o) ∷ []) ∵ updating ! $ use1 𝓛 (‵ (entries_at s.entries b o) ⊛ (‵ (countAt s.count b o) ⊛ raw (all 𝓤 Way))) (apart s) $ split ! $
+        qed 𝓛 (‵ (part_at T.the_row full_share s b o) ∷ []) ∵ updating ! $ use1 𝓛 (‵ (entries_at s.entries b o) ⊛ (‵ (count_at s.count b o) ⊛ raw (all 𝓤 Way))) (apart s) $ split ! $
         use1 𝓛 (given (length s.entries ≡ 31) (‵ (entries_at s.entries b o))) (long s.entries) $ learn ! (λ len.
-        use1 𝓛 (later (some (λ (e : ℕ × GName). ‵ (flft (e.0 ∷ []) full_share) ⊛ (‵ (entriesRef s b o (e, e)) ⊛ ‵ (entriesLent b o (e, e)))))) (lent (Array u8 31) b (o + 0) s.entries) $ await ! tt $ pick ! (λ e. split ! $ move ! (1 ∷ []) $ split ! $
+        use1 𝓛 (later (some (λ (e : ℕ × GName). ‵ (flft (e.0 ∷ []) full_share) ⊛ (‵ (entries_ref s b o (e, e)) ⊛ ‵ (entries_lent b o (e, e)))))) (lent (Array u8 31) b (o + 0) s.entries) $ await ! tt $ pick ! (λ e. split ! $ move ! (1 ∷ []) $ split ! $
         -- [the first reference; its lender's part; its token; the count and the way back]
         move ! (3 ∷ []) $ split ! $
-        use1 𝓛 (later (some (λ (c : ℕ × GName). ‵ (flft (c.0 ∷ []) full_share) ⊛ (‵ (countRef s b o (e, c)) ⊛ ‵ (countLent b o (e, c)))))) (lent usize b (o + 32) s.count) $ await ! tt $ pick ! (λ c. split ! $ move ! (1 ∷ []) $ split ! $
+        use1 𝓛 (later (some (λ (c : ℕ × GName). ‵ (flft (c.0 ∷ []) full_share) ⊛ (‵ (count_ref s b o (e, c)) ⊛ ‵ (count_lent b o (e, c)))))) (lent usize b (o + 32) s.count) $ await ! tt $ pick ! (λ c. split ! $ move ! (1 ∷ []) $ split ! $
         -- [the second reference; its lender's part; its token; the way back; the first reference; its lender's part; its token]
         at_once ! $ show ! (Out s) (e, c) $ nothing ! $ move ! (3 ∷ 0 ∷ []) $ join ! $ move ! (6 ∷ 0 ∷ []) $ join ! $
         -- [the tokens; the second reference; its lender's part; the way back; the first reference; its lender's part]
@@ -168,10 +168,10 @@ module _ {M : Type 1} {𝓤 : Ura M} (𝓛 : Logic 𝓤) where
 
     pub back : (k : Key) (l : List ℕ) (n : ℕ) → ent 𝓤 (sep 𝓤 (Tokens k) (sep 𝓤 (Kept k) (sep 𝓤 (A.res k.0.1 ((Array u8 31).coded.code l)) (A.res k.1.1 (usize.coded.code n))))) (H.⇛ ⟦ part_at T.the_row full_share (both l n) b o ⟧)
     back k l n =
-        qed 𝓛 ((‵ (flft (k.0.0 ∷ []) full_share) ⊛ (‵ (flft (k.1.0 ∷ []) full_share) ⊛ ‵ ftrue)) ∷ (‵ (entriesLent b o k) ⊛ (‵ (countLent b o k) ⊛ raw (all 𝓤 Way))) ∷ ‵ (fres k.0.1 ((Array u8 31).coded.code l)) ∷ ‵ (fres k.1.1 (usize.coded.code n)) ∷ []) ∵
+        qed 𝓛 ((‵ (flft (k.0.0 ∷ []) full_share) ⊛ (‵ (flft (k.1.0 ∷ []) full_share) ⊛ ‵ ftrue)) ∷ (‵ (entries_lent b o k) ⊛ (‵ (count_lent b o k) ⊛ raw (all 𝓤 Way))) ∷ ‵ (fres k.0.1 ((Array u8 31).coded.code l)) ∷ ‵ (fres k.1.1 (usize.coded.code n)) ∷ []) ∵
         updating ! $ split ! $ move ! (2 ∷ []) $ split ! $
         -- [the first lender's part; the second's and the way back; the first token; the second; the last values]
         move ! (2 ∷ 0 ∷ 4 ∷ []) $ use3 𝓛 (later (‵ (entries_at l b o))) (home (Array u8 31) b (o + 0) k.0 l) $ await ! tt $ move ! (1 ∷ []) $ split ! $ move ! (3 ∷ []) $ split ! $
         -- [the second token; …; the second lender's part; the way back; the entries; the last count]
-        move ! (0 ∷ 2 ∷ 5 ∷ []) $ use3 𝓛 (later (‵ (countAt n b o))) (home usize b (o + 32) k.1 n) $ await ! tt $ move ! (3 ∷ 0 ∷ []) $ join ! $ move ! (2 ∷ []) $
-        use1 𝓛 (raw (Way (both l n))) (all_e 𝓤 Way (both l n)) $ move ! (1 ∷ 0 ∷ []) $ use2 𝓛 (‵ (part_at T.the_row full_share (both l n) b o)) (apply∗ 𝓤 (sep 𝓤 ⟦ entries_at l b o ⟧ ⟦ countAt n b o ⟧) ⟦ part_at T.the_row full_share (both l n) b o ⟧) $ at_once ! $ keep ! (0 ∷ []) $ done !
+        move ! (0 ∷ 2 ∷ 5 ∷ []) $ use3 𝓛 (later (‵ (count_at n b o))) (home usize b (o + 32) k.1 n) $ await ! tt $ move ! (3 ∷ 0 ∷ []) $ join ! $ move ! (2 ∷ []) $
+        use1 𝓛 (raw (Way (both l n))) (all_e 𝓤 Way (both l n)) $ move ! (1 ∷ 0 ∷ []) $ use2 𝓛 (‵ (part_at T.the_row full_share (both l n) b o)) (apply∗ 𝓤 (sep 𝓤 ⟦ entries_at l b o ⟧ ⟦ count_at n b o ⟧) ⟦ part_at T.the_row full_share (both l n) b o ⟧) $ at_once ! $ keep ! (0 ∷ []) $ done !

@@ -1,11 +1,11 @@
 // The transmit side of the card: the FIFO and the send outcomes together.
 ghost use Rattle.std.specs.Prelude.{◌≡◌, ◌≤◌, ◌<◌, length};
-ghost use Rattle.transmit_rules.specs.Leave.{toldOf};
+ghost use Rattle.transmit_rules.specs.Leave.{told_of};
 ghost use Rattle.transmit_rules.specs.QueueView.{Tells};
 ghost use Rattle.transmit_rules.specs.Outcome as outcome;
 ghost use Rattle.transmit_rules.specs.OutcomesView.{Stacked};
-ghost use Rattle.transmit_rules.specs.Tx.{onReports, writeData, ready, success as successOf, collisions as collisionsOf, settle as settleOf};
-ghost use Rattle.transmit_rules.specs.View.{txOf, Sound, Unsettled, Step, Does, Says, soundSide};
+ghost use Rattle.transmit_rules.specs.Tx.{on_reports, write_data, ready, success as success_of, collisions as collisions_of, settle as settle_of};
+ghost use Rattle.transmit_rules.specs.View.{tx_of, Sound, Unsettled, Step, Does, Says, sound_side};
 
 use transmit_rules::{Gone, Transmit};
 
@@ -20,7 +20,7 @@ pub use outcomes::{has_status, reset, top_status};
 // The test that a call makes of what it is handed.
 pub fn tx_sound(ram: &[u8], dir: &[u16], size: usize, t: Transmit) -> bool
     requires { (size ≤ 4096) × (8192 ≤ length ram.now) × (1110 ≤ length dir.now) }
-    ensures { result ≡ soundSide size t ram.now dir.now }
+    ensures { result ≡ sound_side size t ram.now dir.now }
 {
     let packed = queue::fifo_sound(ram, dir, size, t.fifo);
     if !packed {
@@ -34,7 +34,7 @@ pub fn tx_sound(ram: &[u8], dir: &[u16], size: usize, t: Transmit) -> bool
 // The host writes a word.
 pub fn write_data(ram: &mut [u8], dir: &mut [u16], size: usize, t: Transmit, v: u16) -> Transmit
     requires { Sound size t ram.old dir.old }
-    ensures { Step size result ram.old dir.old ram.new dir.new (writeData size v (txOf size t ram.old dir.old)) }
+    ensures { Step size result ram.old dir.old ram.new dir.new (write_data size v (tx_of size t ram.old dir.old)) }
 {
     let f = queue::put_word(ram, dir, size, t.fifo, v);
     let mut next = t;
@@ -53,8 +53,8 @@ pub fn is_ready(t: Transmit) -> bool
 // Success: the oldest packet goes, and the first `n` bytes of `out` are what the wire is told.
 pub fn success(ram: &mut [u8], dir: &mut [u16], size: usize, t: Transmit, out: &mut [u8]) -> Gone
     requires { Sound size t ram.old dir.old × (0 < t.fifo.packets) × (1792 ≤ length out.old) }
-    ensures step { Step size result.transmit ram.old dir.old ram.new dir.new (successOf (txOf size t ram.old dir.old)) }
-    ensures tells { Tells result.n out.old out.new (toldOf (txOf size t ram.old dir.old).queue.packets) }
+    ensures step { Step size result.transmit ram.old dir.old ram.new dir.new (success_of (tx_of size t ram.old dir.old)) }
+    ensures tells { Tells result.n out.old out.new (told_of (tx_of size t ram.old dir.old).queue.packets) }
 {
     let wanted = queue::oldest_wanted(ram, dir, size, t.fifo);
     let n = queue::tell(ram, dir, size, t.fifo, out);
@@ -73,7 +73,7 @@ pub fn success(ram: &mut [u8], dir: &mut [u16], size: usize, t: Transmit, out: &
 // 16 collisions: the oldest packet goes, and the transmitter is off.
 pub fn collisions(ram: &mut [u8], dir: &mut [u16], size: usize, t: Transmit) -> Transmit
     requires { Sound size t ram.old dir.old × (0 < t.fifo.packets) }
-    ensures { Step size result ram.old dir.old ram.new dir.new (collisionsOf (txOf size t ram.old dir.old)) }
+    ensures { Step size result ram.old dir.old ram.new dir.new (collisions_of (tx_of size t ram.old dir.old)) }
 {
     let wanted = queue::oldest_wanted(ram, dir, size, t.fifo);
     let f = queue::leave_first(ram, dir, size, t.fifo);
@@ -87,7 +87,7 @@ pub fn collisions(ram: &mut [u8], dir: &mut [u16], size: usize, t: Transmit) -> 
 // TX Available, at the end of every step.
 pub fn settle(ram: &[u8], dir: &[u16], size: usize, t: Transmit) -> Transmit
     requires { Unsettled size t ram.now dir.now }
-    ensures { Step size result ram.now dir.now ram.now dir.now (settleOf size (txOf size t ram.now dir.now)) }
+    ensures { Step size result ram.now dir.now ram.now dir.now (settle_of size (tx_of size t ram.now dir.now)) }
 {
     let o = outcomes::settle_available(t.outcomes, t.fifo.free);
     let mut next = t;
@@ -98,7 +98,7 @@ pub fn settle(ram: &[u8], dir: &[u16], size: usize, t: Transmit) -> Transmit
 // A write to TX Status: the oldest status goes.
 pub fn pop_status(t: Transmit) -> Transmit
     requires { Stacked t.outcomes }
-    ensures { Does t result (onReports outcome.pop) }
+    ensures { Does t result (on_reports outcome.pop) }
 {
     let o = outcomes::pop_status(t.outcomes);
     let mut next = t;

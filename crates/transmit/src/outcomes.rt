@@ -1,7 +1,7 @@
 // The sender's registers and the TX status stack: what send outcomes report, and the commands that turn the transmitter on and off.
 ghost use Rattle.std.specs.Prelude.{◌≡◌};
 ghost use Rattle.transmit_rules.specs.Outcome as outcome;
-ghost use Rattle.transmit_rules.specs.OutcomesView.{stack as stack_of, reportsOf, Stacked, Reported, soundOutcomes};
+ghost use Rattle.transmit_rules.specs.OutcomesView.{stack as stack_of, reports_of, Stacked, Reported, sound_outcomes};
 
 use crate::{stack, statuses};
 use transmit_rules::{Outcomes, Sender, Statuses};
@@ -11,7 +11,7 @@ const THRESHOLD_DEFAULT: u16 = 2044;
 
 // Power-on.
 pub fn fresh() -> Outcomes
-    ensures { Reported result outcome.atPowerOn }
+    ensures { Reported result outcome.at_power_on }
 {
     let sender = Sender {
         on: false,
@@ -32,7 +32,7 @@ pub fn fresh() -> Outcomes
 
 // The test that a call makes of what it is handed.
 pub fn outcomes_sound(o: Outcomes) -> bool
-    ensures { result ≡ soundOutcomes o }
+    ensures { result ≡ sound_outcomes o }
 {
     let n = o.statuses.count;
     let s = o.sender;
@@ -63,7 +63,7 @@ pub fn has_status(o: Outcomes) -> bool
 // A write to TX Status: the oldest status goes. The stack is lent where it lies.
 pub fn pop_status(o: Outcomes) -> Outcomes
     requires { Stacked o }
-    ensures { Reported result (outcome.pop (reportsOf o)) }
+    ensures { Reported result (outcome.pop (reports_of o)) }
 {
     let mut next = o;
     statuses::pop(&mut next.statuses);
@@ -73,7 +73,7 @@ pub fn pop_status(o: Outcomes) -> Outcomes
 // What a success reports; `wanted` is bit 15 of the packet's preamble.
 pub fn success(o: Outcomes, wanted: bool) -> Outcomes
     requires { Stacked o }
-    ensures { Reported result (outcome.succeeded wanted (reportsOf o)) }
+    ensures { Reported result (outcome.succeeded wanted (reports_of o)) }
 {
     if wanted {
         return stack::report(o, 192);
@@ -84,7 +84,7 @@ pub fn success(o: Outcomes, wanted: bool) -> Outcomes
 // What 16 collisions report: the transmitter is off then.
 pub fn collisions(o: Outcomes, wanted: bool) -> Outcomes
     requires { Stacked o }
-    ensures { Reported result (outcome.collided wanted (reportsOf o)) }
+    ensures { Reported result (outcome.collided wanted (reports_of o)) }
 {
     let mut next = stack::report(o, stack::collision_status(wanted));
     next.sender.on = false;
@@ -94,7 +94,7 @@ pub fn collisions(o: Outcomes, wanted: bool) -> Outcomes
 // TX Enable: nothing while the stack is full.
 pub fn enable(o: Outcomes) -> Outcomes
     requires { Stacked o }
-    ensures { Reported result (outcome.enable (reportsOf o)) }
+    ensures { Reported result (outcome.enable (reports_of o)) }
 {
     let n = o.statuses.count;
     let on = o.sender.on | (n < 31);
@@ -106,7 +106,7 @@ pub fn enable(o: Outcomes) -> Outcomes
 // TX Disable.
 pub fn disable(o: Outcomes) -> Outcomes
     requires { Stacked o }
-    ensures { Reported result (outcome.off (reportsOf o)) }
+    ensures { Reported result (outcome.off (reports_of o)) }
 {
     let mut next = o;
     next.sender.on = false;
@@ -116,7 +116,7 @@ pub fn disable(o: Outcomes) -> Outcomes
 // TX Reset: the transmitter is off, both thresholds are the defaults, and the statuses stay.
 pub fn reset(o: Outcomes) -> Outcomes
     requires { Stacked o }
-    ensures { Reported result (outcome.reset (reportsOf o)) }
+    ensures { Reported result (outcome.reset (reports_of o)) }
 {
     let mut next = o;
     next.sender.on = false;
@@ -128,7 +128,7 @@ pub fn reset(o: Outcomes) -> Outcomes
 // The TX Available threshold.
 pub fn set_level(o: Outcomes, n: u16) -> Outcomes
     requires { Stacked o }
-    ensures { Reported result (outcome.setLevel n (reportsOf o)) }
+    ensures { Reported result (outcome.set_level n (reports_of o)) }
 {
     let level = n / 4 * 4;
     let mut next = o;
@@ -139,7 +139,7 @@ pub fn set_level(o: Outcomes, n: u16) -> Outcomes
 // The TX Start threshold.
 pub fn set_start(o: Outcomes, n: u16) -> Outcomes
     requires { Stacked o }
-    ensures { Reported result (outcome.setStart n (reportsOf o)) }
+    ensures { Reported result (outcome.set_start n (reports_of o)) }
 {
     let start = n / 4 * 4;
     let mut next = o;
@@ -150,7 +150,7 @@ pub fn set_start(o: Outcomes, n: u16) -> Outcomes
 // Acknowledging TX Available, where it is named: while set it is cleared, and the threshold is disabled.
 pub fn acknowledge(o: Outcomes, named: bool) -> Outcomes
     requires { Stacked o }
-    ensures { Reported result (outcome.acknowledge named (reportsOf o)) }
+    ensures { Reported result (outcome.acknowledge named (reports_of o)) }
 {
     let was = o.sender.available;
     let cleared = named & was;
@@ -166,7 +166,7 @@ pub fn acknowledge(o: Outcomes, named: bool) -> Outcomes
 // TX Available, when `free` is TX Free.
 pub fn settle_available(o: Outcomes, free: u16) -> Outcomes
     requires { Stacked o }
-    ensures { Reported result (outcome.settleAvailable free (reportsOf o)) }
+    ensures { Reported result (outcome.settle_available free (reports_of o)) }
 {
     let s = o.sender;
     let level = s.level;
@@ -178,7 +178,7 @@ pub fn settle_available(o: Outcomes, free: u16) -> Outcomes
 
 // TX Available stands if it is due, when `free` is TX Free.
 pub fn is_settled(o: Outcomes, free: u16) -> bool
-    ensures { result ≡ outcome.availableSettled free o.sender }
+    ensures { result ≡ outcome.available_settled free o.sender }
 {
     let s = o.sender;
     let level = s.level;

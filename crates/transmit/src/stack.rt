@@ -1,9 +1,9 @@
 // What is pushed on the status stack.
 ghost use Rattle.std.specs.Prelude.{◌≡◌, cond, ◌≤◌};
 ghost use Rattle.transmit_rules.specs.Stack.{stack, Room, added};
-ghost use Rattle.transmit_rules.specs.Reports.{withStatuses};
+ghost use Rattle.transmit_rules.specs.Reports.{with_statuses};
 ghost use Rattle.transmit_rules.specs.Outcome.{push};
-ghost use Rattle.transmit_rules.specs.OutcomesView.{reportsOf, Stacked, Reported};
+ghost use Rattle.transmit_rules.specs.OutcomesView.{reports_of, Stacked, Reported};
 
 use crate::statuses;
 use transmit_rules::Outcomes;
@@ -11,7 +11,7 @@ use transmit_rules::Outcomes;
 // One more status, the newest. The stack is lent where it lies.
 pub fn push_status(o: Outcomes, v: u8) -> Outcomes
     requires { Room o.statuses }
-    ensures { Reported result (withStatuses (added v (stack o.statuses)) (reportsOf o)) }
+    ensures { Reported result (with_statuses (added v (stack o.statuses)) (reports_of o)) }
 {
     let mut next = o;
     statuses::push(&mut next.statuses, v);
@@ -21,7 +21,7 @@ pub fn push_status(o: Outcomes, v: u8) -> Outcomes
 // A status is reported. The push that fills the stack adds 04h and turns the transmitter off.
 pub fn report(o: Outcomes, v: u8) -> Outcomes
     requires { Stacked o × (v ≤ 251) }
-    ensures { Reported result (push v (reportsOf o)) }
+    ensures { Reported result (push v (reports_of o)) }
 {
     let n = o.statuses.count;
     if n < 30 {

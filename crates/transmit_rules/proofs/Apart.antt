@@ -7,12 +7,12 @@ use native.Mathlib.Omega.{arith}
 use lib.ListN.{length, get_or}
 use lib.Seq.{get_or-drop}
 use Rattle.store.specs.declared.Area.{Area}
-use Rattle.store.specs.Store.{Frame, frames, roomOf, part, Kept}
+use Rattle.store.specs.Store.{Frame, frames, room_of, part, Kept}
 use Rattle.store.proofs.Laws.{kept-part}
 use Rattle.store.proofs.Lift.{apart-kept}
 use Rattle.transmit_rules.specs.declared.Fifo.{Fifo}
 use Rattle.transmit_rules.specs.Queue.{Part, no_part, Queue, room, free}
-use Rattle.transmit_rules.specs.QueueView.{txArea, part_of, queueOf, Packed}
+use Rattle.transmit_rules.specs.QueueView.{tx_area, part_of, queue_of, Packed}
 
 -- below the area
 abbrev below : ℕ → Area
@@ -33,33 +33,33 @@ module _ (size : ℕ) (f : Fifo) (ram dir ram' dir' : List ℕ) (kr : Kept 0 (81
   same-part zero = refl
   same-part (suc k) =
       ap₂ (λ (w : ℕ) (l : List ℕ). record { words = suc k; preamble = w; bytes = l }) (same_word f.packets)
-      (ap (λ (d : List ℕ). part (8192 - size + roomOf d) (2 * (suc k - 2)) ram') same-words ∙ same_bytes (roomOf (part 768 f.packets dir)) (2 * (suc k - 2)))
+      (ap (λ (d : List ℕ). part (8192 - size + room_of d) (2 * (suc k - 2)) ram') same-words ∙ same_bytes (room_of (part 768 f.packets dir)) (2 * (suc k - 2)))
 
   module _ (P : Packed size f ram dir) where
-    both-kept : Packed size f ram' dir' × (queueOf size f ram' dir' ≡ queueOf size f ram dir)
+    both-kept : Packed size f ram' dir' × (queue_of size f ram' dir' ≡ queue_of size f ram dir)
     both-kept =
-        let A = apart-kept (below size) (txArea size) f.packets ram dir ram' dir' kr kd P.lies (inr (omega arith)) (inr (omega arith)) in
-        let e : queueOf size f ram' dir' ≡ queueOf size f ram dir = ap₂ (λ (ps : List Frame) (p : Part). record { failed = f.failed; packets = ps; part = p }) A.1 (same-part f.words) in
+        let A = apart-kept (below size) (tx_area size) f.packets ram dir ram' dir' kr kd P.lies (inr (omega arith)) (inr (omega arith)) in
+        let e : queue_of size f ram' dir' ≡ queue_of size f ram dir = ap₂ (λ (ps : List Frame) (p : Part). record { failed = f.failed; packets = ps; part = p }) A.1 (same-part f.words) in
         (record { lies = A.0; counted = P.counted ∙ ap (λ (q : Queue). free size q) (sym e) }, e)
 
     pub packed-kept : Packed size f ram' dir'
     packed-kept = both-kept.0
 
-    pub queue-kept : queueOf size f ram' dir' ≡ queueOf size f ram dir
+    pub queue-kept : queue_of size f ram' dir' ≡ queue_of size f ram dir
     queue-kept = both-kept.1
 
 -- ---- the same FIFO in another size, while nothing is written
 
-pub idle-queue : (size : ℕ) (f : Fifo) (ram dir : List ℕ) → f.packets ≡ 0 → f.words ≡ 0 → queueOf size f ram dir ≡ record { failed = f.failed; packets = []; part = no_part }
+pub idle-queue : (size : ℕ) (f : Fifo) (ram dir : List ℕ) → f.packets ≡ 0 → f.words ≡ 0 → queue_of size f ram dir ≡ record { failed = f.failed; packets = []; part = no_part }
 unfolding frames part_of
 idle-queue size f ram dir e d = rw (e, d)
 
 -- nothing is written: no packet and no word is counted, and all `size` bytes are free
 pub idle-packed : (size : ℕ) (f : Fifo) (ram dir : List ℕ) → f.packets ≡ 0 → f.words ≡ 0 → f.free ≡ size → size ≤ 4096 → 8192 ≤ length ram → 1110 ≤ length dir → Packed size f ram dir
-unfolding roomOf free room
+unfolding room_of free room
 idle-packed size f ram dir e d n s hr hd =
     let z : size ≡ free size (record { failed = f.failed; packets = []; part = no_part }) = omega arith in
     record {
-      lies = record { in-ram = omega arith; in-dir = omega arith; few = omega arith; small = omega arith; room = rw e (omega arith) };
+      lies = record { in_ram = omega arith; in_dir = omega arith; few = omega arith; small = omega arith; room = rw e (omega arith) };
       counted = n ∙ z ∙ sym (ap (λ (q : Queue). free size q) (idle-queue size f ram dir e d));
     }

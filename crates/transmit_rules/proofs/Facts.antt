@@ -8,11 +8,11 @@ use borrow.Author.Tests.{leb-true, ltb-true, ne_eqb}
 use lib.Dec.{leb, ltb, eqb}
 use lib.ListN.{length, get_or}
 use Rattle.store.specs.Store as store
-use Rattle.store.specs.Store.{len_of, round4, roomOf, part}
+use Rattle.store.specs.Store.{len_of, round4, room_of, part}
 use Rattle.transmit_rules.specs.Queue.{room, free}
 use Rattle.transmit_rules.specs.Write.{sized}
-use Rattle.transmit_rules.specs.QueueSound.{allSized, growing}
-use Rattle.transmit_rules.specs.QueueView.{txArea, packetsOf, growth, part_of, queueOf, Holds}
+use Rattle.transmit_rules.specs.QueueSound.{all_sized, growing}
+use Rattle.transmit_rules.specs.QueueView.{tx_area, packets_of, growth, part_of, queue_of, Holds}
 use Rattle.transmit_rules.specs.declared.Fifo.{Fifo}
 use Rattle.bits.proofs.Tests.{both}
 use Rattle.transmit_rules.proofs.Parts.{part_length, room-words, least}
@@ -22,21 +22,21 @@ unfolding part_of
 words_of size n zero ram dir = refl
 words_of size n (suc k) ram dir = refl
 
-pub part-of : (size n k : ℕ) (ram dir : List ℕ) → 0 < k → part_of size n k ram dir ≡ growth size n k ram dir
+pub part_of_lem : (size n k : ℕ) (ram dir : List ℕ) → 0 < k → part_of size n k ram dir ≡ growth size n k ram dir
 unfolding part_of
-part-of size n zero ram dir h = absurd (omega arith)
-part-of size n (suc k) ram dir h = refl
+part_of_lem size n zero ram dir h = absurd (omega arith)
+part_of_lem size n (suc k) ram dir h = refl
 
-pub room_of : (size n : ℕ) (ram dir : List ℕ) → store.Sound (txArea size) n ram dir → room (packetsOf size n ram dir) ≡ roomOf (part 768 n dir) + 4 * n
-room_of size n ram dir S =
+pub room_of_lem : (size n : ℕ) (ram dir : List ℕ) → store.Sound (tx_area size) n ram dir → room (packets_of size n ram dir) ≡ room_of (part 768 n dir) + 4 * n
+room_of_lem size n ram dir S =
     let e : length (part 768 n dir) ≡ n = part_length dir 768 n (omega arith) in
-    let len : length (part (8192 - size) size ram) ≡ size = part_length ram (8192 - size) size S.in-ram in
+    let len : length (part (8192 - size) size ram) ≡ size = part_length ram (8192 - size) size S.in_ram in
     rw e at (room-words (part 768 n dir) (part (8192 - size) size ram) (omega arith))
 
-pub free_of : (size : ℕ) (f : Fifo) (ram dir : List ℕ) → store.Sound (txArea size) f.packets ram dir
-    → free size (queueOf size f ram dir) ≡ size - (roomOf (part 768 f.packets dir) + 4 * f.packets + 2 * f.words)
+pub free_of : (size : ℕ) (f : Fifo) (ram dir : List ℕ) → store.Sound (tx_area size) f.packets ram dir
+    → free size (queue_of size f ram dir) ≡ size - (room_of (part 768 f.packets dir) + 4 * f.packets + 2 * f.words)
 unfolding free
-free_of size f ram dir S = rw (room_of size f.packets ram dir S, words_of size f.packets f.words ram dir)
+free_of size f ram dir S = rw (room_of_lem size f.packets ram dir S, words_of size f.packets f.words ram dir)
 
 -- the packet being written: w is its first word
 pub record Grows (k w : ℕ) : Type 0 where
@@ -45,7 +45,7 @@ pub record Grows (k w : ℕ) : Type 0 where
   pub less : 2 * k < 4 + round4 (len_of w)
 
 pub record Facts (size n k : ℕ) (dir : List ℕ) : Type 0 where
-  pub space : roomOf (part 768 n dir) + 4 * n + 2 * k ≤ size
+  pub space : room_of (part 768 n dir) + 4 * n + 2 * k ≤ size
   pub place : n < 342
   pub few : k ≤ 2048
 
@@ -61,11 +61,11 @@ grown size n (suc k) ram dir h g =
     record { long = leb-true _ _ q.0; short = leb-true _ _ q.1; less = ltb-true _ _ p.1 }
 
 module _ (size : ℕ) (f : Fifo) (ram dir : List ℕ) (H : Holds size f ram dir) where
-  halves : (leb (room (packetsOf size f.packets ram dir) + 2 * (part_of size f.packets f.words ram dir).words) size ≡ true)
-      × (allSized (packetsOf size f.packets ram dir) ≡ true) × (growing (part_of size f.packets f.words ram dir) ≡ true)
+  halves : (leb (room (packets_of size f.packets ram dir) + 2 * (part_of size f.packets f.words ram dir).words) size ≡ true)
+      × (all_sized (packets_of size f.packets ram dir) ≡ true) × (growing (part_of size f.packets f.words ram dir) ≡ true)
   halves =
-      let a : Bool = leb (room (packetsOf size f.packets ram dir) + 2 * (part_of size f.packets f.words ram dir).words) size in
-      let b : Bool = allSized (packetsOf size f.packets ram dir) in
+      let a : Bool = leb (room (packets_of size f.packets ram dir) + 2 * (part_of size f.packets f.words ram dir).words) size in
+      let b : Bool = all_sized (packets_of size f.packets ram dir) in
       let p = both (a && b) (growing (part_of size f.packets f.words ram dir)) H.calm in
       let q = both a b p.0 in
       (q.0, q.1, p.1)
@@ -75,20 +75,20 @@ module _ (size : ℕ) (f : Fifo) (ram dir : List ℕ) (H : Holds size f ram dir)
       let n : ℕ = f.packets in
       let S = H.packed.lies in
       let few : n ≤ 342 = S.few in
-      let dirs : 768 + 342 ≤ length dir = S.in-dir in
+      let dirs : 768 + 342 ≤ length dir = S.in_dir in
       let e : length (part 768 n dir) ≡ n = part_length dir 768 n (omega arith) in
-      let len : length (part (8192 - size) size ram) ≡ size = part_length ram (8192 - size) size S.in-ram in
-      let space : roomOf (part 768 n dir) + 4 * n + 2 * f.words ≤ size =
-      omega (arith, rw (room_of size n ram dir S, words_of size n f.words ram dir) at (leb-true (room (packetsOf size n ram dir) + 2 * (part_of size n f.words ram dir).words) size halves.0)) in
-      let l : 8 * n ≤ roomOf (part 768 n dir) = rw e at (least (part 768 n dir) (part (8192 - size) size ram) (omega arith) halves.1) in
+      let len : length (part (8192 - size) size ram) ≡ size = part_length ram (8192 - size) size S.in_ram in
+      let space : room_of (part 768 n dir) + 4 * n + 2 * f.words ≤ size =
+      omega (arith, rw (room_of_lem size n ram dir S, words_of size n f.words ram dir) at (leb-true (room (packets_of size n ram dir) + 2 * (part_of size n f.words ram dir).words) size halves.0)) in
+      let l : 8 * n ≤ room_of (part 768 n dir) = rw e at (least (part 768 n dir) (part (8192 - size) size ram) (omega arith) halves.1) in
       let small : size ≤ 4096 = H.small in
       record { space = space; place = omega arith; few = omega arith }
 
   -- what the packets and the words of the one being written take, and TX Free, are all `size` bytes
-  pub shares : roomOf (part 768 f.packets dir) + 4 * f.packets + 2 * f.words + f.free ≡ size
+  pub shares : room_of (part 768 f.packets dir) + 4 * f.packets + 2 * f.words + f.free ≡ size
   shares = omega (arith, facts.space, H.packed.counted, free_of size f ram dir H.packed.lies)
 
-  pub sizes : allSized (packetsOf size f.packets ram dir) ≡ true
+  pub sizes : all_sized (packets_of size f.packets ram dir) ≡ true
   sizes = halves.1
 
   pub grows : 0 < f.words → Grows f.words (get_or dir (768 + f.packets) 0)

@@ -10,11 +10,11 @@ use lib.Dec.{leb}
 use mathlib.Core.List.{append_assoc}
 use lib.ListN.{length, take, drop, get_or, set, length-drop, length-set}
 use lib.Seq.{length-take-le, take-take, drop-drop, get_or-take, get_or-drop}
-use Rattle.store.specs.Store.{frames, len_of, round4, roomOf, part}
-use Rattle.store.proofs.Laws.{drop-take-le, part-snoc-set, kept-part, kept_set, frames-take}
+use Rattle.store.specs.Store.{frames, len_of, round4, room_of, part}
+use Rattle.store.proofs.Laws.{drop-take-le, part_snoc_set, kept-part, kept_set, frames-take}
 use Rattle.transmit_rules.specs.Queue.{room}
 use Rattle.transmit_rules.specs.Write.{sized}
-use Rattle.transmit_rules.specs.QueueSound.{allSized}
+use Rattle.transmit_rules.specs.QueueSound.{all_sized}
 use Rattle.bits.proofs.Tests.{both}
 
 pub part_length : (l : List ℕ) (f n : ℕ) → f + n ≤ length l → length (part f n l) ≡ n
@@ -38,24 +38,24 @@ pub part-two : (l : List ℕ) (f k j x y : ℕ) → j ≡ f + k → f + k + 1 < 
 part-two l f k j x y e h =
     let p : j + 1 ≡ f + suc k = omega arith in
     let q : k + 2 ≡ suc (suc k) = omega arith in
-    rw (p, q) (part-snoc-set (set l j x) f (suc k) y (rw length-set (omega arith))
-    ∙ ap (λ (r : List ℕ). r ++ (y ∷ [])) (ap (λ (i : ℕ). part f (suc k) (set l i x)) e ∙ part-snoc-set l f k x (omega arith))
+    rw (p, q) (part_snoc_set (set l j x) f (suc k) y (rw length-set (omega arith))
+    ∙ ap (λ (r : List ℕ). r ++ (y ∷ [])) (ap (λ (i : ℕ). part f (suc k) (set l i x)) e ∙ part_snoc_set l f k x (omega arith))
     ∙ append_assoc (part f k l) (x ∷ []) (y ∷ []))
 
 -- frames look no further than their room
-pub frames-same : (ws l m : List ℕ) (k : ℕ) → roomOf ws ≤ k → take k l ≡ take k m → frames ws l ≡ frames ws m
+pub frames-same : (ws l m : List ℕ) (k : ℕ) → room_of ws ≤ k → take k l ≡ take k m → frames ws l ≡ frames ws m
 frames-same ws l m k h e = sym (frames-take ws l k h) ∙ ap (λ (r : List ℕ). frames ws r) e ∙ frames-take ws m k h
 
 -- the room of packets: 4 for each beside the room of their data
-pub room-words : (ws m : List ℕ) → roomOf ws ≤ length m → room (frames ws m) ≡ roomOf ws + 4 * length ws
-unfolding room frames roomOf
+pub room-words : (ws m : List ℕ) → room_of ws ≤ length m → room (frames ws m) ≡ room_of ws + 4 * length ws
+unfolding room frames room_of
 room-words [] m h = refl
 room-words (w ∷ ws) m h =
     rw (length-take-le (len_of w) m (omega arith)) (omega (arith, room-words ws (drop (round4 (len_of w)) m) (simp length-drop (omega arith))))
 
 -- each takes 8 or more, so that a place of the directory is left
-pub least : (ws m : List ℕ) → roomOf ws ≤ length m → allSized (frames ws m) ≡ true → 8 * length ws ≤ roomOf ws
-unfolding allSized frames roomOf
+pub least : (ws m : List ℕ) → room_of ws ≤ length m → all_sized (frames ws m) ≡ true → 8 * length ws ≤ room_of ws
+unfolding all_sized frames room_of
 least [] m h s = omega arith
 least (w ∷ ws) m h s =
     let e : length (take (len_of w) m) ≡ len_of w = length-take-le (len_of w) m (omega arith) in

@@ -8,8 +8,8 @@ use lib.ListN.{length, replicate}
 use Rattle.store.specs.Store.{Frame, begun}
 use Rattle.transmit_rules.specs.Queue.{Queue, empty, no_part, room, free}
 use Rattle.transmit_rules.specs.Write.{put, completed}
-use Rattle.transmit_rules.specs.Leave.{oldestWanted, told, others, leave}
-use Rattle.transmit_rules.specs.QueueSound.{allSized, orderly}
+use Rattle.transmit_rules.specs.Leave.{oldest_wanted, told, others, leave}
+use Rattle.transmit_rules.specs.QueueSound.{all_sized, orderly}
 use Rattle.transmit_rules.specs.Whole.{puts, bytes_of}
 use Rattle.transmit_rules.proofs.Whole.{written-whole}
 
@@ -46,18 +46,18 @@ two-left = ap (free 3072) (ap (written 1514 758) one_written ∙ two-written)
 two : Queue
 two = stores (big ∷ big ∷ [])
 
-twenty-eight : ((written 28 14 two).failed ≡ false) × (length (written 28 14 two).packets ≡ 3) × (free 3072 (written 28 14 two) ≡ 0)
+twenty_eight : ((written 28 14 two).failed ≡ false) × (length (written 28 14 two).packets ≡ 3) × (free 3072 (written 28 14 two) ≡ 0)
 unfolding two stores big written puts put completed free room
-twenty-eight = (refl, refl, refl)
+twenty_eight = (refl, refl, refl)
 
-twenty-nine : ((written 29 16 two).failed ≡ true) × (length (written 29 16 two).packets ≡ 2)
+twenty_nine : ((written 29 16 two).failed ≡ true) × (length (written 29 16 two).packets ≡ 2)
 unfolding two stores big written puts put completed free room
-twenty-nine = (refl, refl)
+twenty_nine = (refl, refl)
 
 -- each word takes 2
-by-twos : (free 3072 (puts 3072 (14 ∷ []) empty) ≡ 3070) × (free 3072 (puts 3072 (14 ∷ 0 ∷ 0 ∷ []) empty) ≡ 3066)
+by_twos : (free 3072 (puts 3072 (14 ∷ []) empty) ≡ 3070) × (free 3072 (puts 3072 (14 ∷ 0 ∷ 0 ∷ []) empty) ≡ 3066)
 unfolding puts put completed free room
-by-twos = (refl, refl)
+by_twos = (refl, refl)
 
 -- one byte is no room for a word
 one_byte : put 1 14 empty ≡ record { failed = true; packets = []; part = no_part }
@@ -65,21 +65,21 @@ unfolding put free room
 one_byte = refl
 
 -- a preamble of 5 fails, and so does one of 1,793; neither takes room. 6 and 1,792 are taken
-fails-5 : put 3072 5 empty ≡ record { failed = true; packets = []; part = no_part }
+fails_5 : put 3072 5 empty ≡ record { failed = true; packets = []; part = no_part }
 unfolding put free room
-fails-5 = refl
+fails_5 = refl
 
-fails-1793 : put 3072 1793 empty ≡ record { failed = true; packets = []; part = no_part }
+fails_1793 : put 3072 1793 empty ≡ record { failed = true; packets = []; part = no_part }
 unfolding put free room
-fails-1793 = refl
+fails_1793 = refl
 
-takes-6 : put 3072 6 empty ≡ record { failed = false; packets = []; part = record { words = 1; preamble = 6; bytes = [] } }
+takes_6 : put 3072 6 empty ≡ record { failed = false; packets = []; part = record { words = 1; preamble = 6; bytes = [] } }
 unfolding put free room
-takes-6 = refl
+takes_6 = refl
 
-takes-1792 : (put 3072 1792 empty).failed ≡ false
+takes_1792 : (put 3072 1792 empty).failed ≡ false
 unfolding put free room
-takes-1792 = refl
+takes_1792 = refl
 
 -- the low byte goes first, and the pad is not kept: 8006h begins a packet of 6 bytes with bit 15
 low_first : puts 3072 (32774 ∷ 0 ∷ 513 ∷ 1027 ∷ 1541 ∷ 0 ∷ []) empty ≡ record { failed = false; packets = begun 16 (1 ∷ 2 ∷ 3 ∷ 4 ∷ 5 ∷ 6 ∷ []) ∷ []; part = no_part }
@@ -94,13 +94,13 @@ included : told (begun 4 (replicate 14 1)) ≡ replicate 14 1
 included = refl
 
 -- completion is wanted by bit 15, and not by bit 14
-wanted-15 : oldestWanted (begun 16 (replicate 14 1) ∷ []) ≡ true
-unfolding oldestWanted
-wanted-15 = refl
+wanted_15 : oldest_wanted (begun 16 (replicate 14 1) ∷ []) ≡ true
+unfolding oldest_wanted
+wanted_15 = refl
 
-unwanted-14 : oldestWanted (begun 8 (replicate 14 1) ∷ []) ≡ false
-unfolding oldestWanted
-unwanted-14 = refl
+unwanted_14 : oldest_wanted (begun 8 (replicate 14 1) ∷ []) ≡ false
+unfolding oldest_wanted
+unwanted_14 = refl
 
 -- the oldest packet leaves, and all that has come of the one being written stays: 3 words of data are 6 bytes
 leaves : leave (puts 3072 (14 ∷ 0 ∷ 513 ∷ 1027 ∷ 1541 ∷ []) (written 14 8 empty)) ≡ record { failed = false; packets = []; part = record { words = 5; preamble = 14; bytes = 1 ∷ 2 ∷ 3 ∷ 4 ∷ 5 ∷ 6 ∷ [] } }
@@ -109,9 +109,9 @@ leaves = refl
 
 -- of 64 bytes a packet of 40 takes 44, and two would take 88
 sum_fits : orderly 64 (stores (begun 0 (replicate 40 0) ∷ [])) ≡ true
-unfolding stores room allSized
+unfolding stores room all_sized
 sum_fits = refl
 
 sum_over : orderly 64 (stores (begun 0 (replicate 40 0) ∷ begun 0 (replicate 40 0) ∷ [])) ≡ false
-unfolding stores room allSized
+unfolding stores room all_sized
 sum_over = refl

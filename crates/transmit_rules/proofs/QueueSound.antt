@@ -10,102 +10,102 @@ use lib.Dec.{leb, ltb, eqb}
 use lib.ListN.{length, drop, get_or, length-drop}
 use lib.Seq.{length-take-le}
 use Rattle.store.specs.Store as store
-use Rattle.store.specs.Store.{frames, len_of, round4, roomOf, part}
-use Rattle.store.proofs.Laws.{part-snoc}
+use Rattle.store.specs.Store.{frames, len_of, round4, room_of, part}
+use Rattle.store.proofs.Laws.{part_snoc}
 use Rattle.transmit_rules.specs.Queue.{room, free}
 use Rattle.transmit_rules.specs.Write.{sized}
-use Rattle.transmit_rules.specs.QueueSound.{allSized, growing, orderly}
-use Rattle.transmit_rules.specs.QueueView.{txArea, packetsOf, part_of, queueOf, Holds, goodWords, soundFifo}
+use Rattle.transmit_rules.specs.QueueSound.{all_sized, growing, orderly}
+use Rattle.transmit_rules.specs.QueueView.{tx_area, packets_of, part_of, queue_of, Holds, good_words, sound_fifo}
 use Rattle.transmit_rules.specs.declared.Fifo.{Fifo}
-use Rattle.bits.proofs.Tests.{by-test, both}
+use Rattle.bits.proofs.Tests.{by_test, both}
 use Rattle.transmit_rules.proofs.Parts.{part_length}
-use Rattle.transmit_rules.proofs.Facts.{words_of, room_of, free_of, facts}
+use Rattle.transmit_rules.proofs.Facts.{words_of, room_of_lem, free_of, facts}
 
-good-snoc : (ws : List ℕ) (w : ℕ) → goodWords (ws ++ (w ∷ [])) ≡ (goodWords ws && sized (w % 2048))
-unfolding goodWords
-good-snoc [] w = and-true (sized (w % 2048))
-good-snoc (x ∷ ws) w = ap (λ (t : Bool). sized (x % 2048) && t) (good-snoc ws w) ∙ sym (and_assoc (sized (x % 2048)) (goodWords ws) (sized (w % 2048)))
+good_snoc : (ws : List ℕ) (w : ℕ) → good_words (ws ++ (w ∷ [])) ≡ (good_words ws && sized (w % 2048))
+unfolding good_words
+good_snoc [] w = and-true (sized (w % 2048))
+good_snoc (x ∷ ws) w = ap (λ (t : Bool). sized (x % 2048) && t) (good_snoc ws w) ∙ sym (and_assoc (sized (x % 2048)) (good_words ws) (sized (w % 2048)))
 
-pub good_more : (dir : List ℕ) (i : ℕ) (t : Bool) → 768 + i < length dir → t ≡ goodWords (part 768 i dir)
-    → (t && leb 6 (get_or dir (768 + i) 0 % 2048) && leb (get_or dir (768 + i) 0 % 2048) 1792) ≡ goodWords (part 768 (i + 1) dir)
+pub good_more : (dir : List ℕ) (i : ℕ) (t : Bool) → 768 + i < length dir → t ≡ good_words (part 768 i dir)
+    → (t && leb 6 (get_or dir (768 + i) 0 % 2048) && leb (get_or dir (768 + i) 0 % 2048) 1792) ≡ good_words (part 768 (i + 1) dir)
 good_more dir i t h e =
     let w : ℕ = get_or dir (768 + i) 0 in
     and_assoc t (leb 6 (w % 2048)) (leb (w % 2048) 1792) ∙ ap (λ (b : Bool). b && sized (w % 2048)) e
-    ∙ sym (ap (λ (j : ℕ). goodWords (part 768 j dir)) (add-one i) ∙ ap goodWords (part-snoc dir 768 i h) ∙ good-snoc (part 768 i dir) w)
+    ∙ sym (ap (λ (j : ℕ). good_words (part 768 j dir)) (add-one i) ∙ ap good_words (part_snoc dir 768 i h) ∙ good_snoc (part 768 i dir) w)
 
-good-frames : (ws m : List ℕ) → roomOf ws ≤ length m → allSized (frames ws m) ≡ goodWords ws
-unfolding allSized goodWords frames roomOf
+good-frames : (ws m : List ℕ) → room_of ws ≤ length m → all_sized (frames ws m) ≡ good_words ws
+unfolding all_sized good_words frames room_of
 good-frames [] m h = refl
 good-frames (w ∷ ws) m h =
     rw (length-take-le (len_of w) m (omega arith)) (ap (λ (t : Bool). sized (len_of w) && t) (good-frames ws (drop (round4 (len_of w)) m) (simp length-drop (omega arith))))
 
-growing-of : (size n k : ℕ) (ram dir : List ℕ) → 8192 - size + roomOf (part 768 n dir) + 2 * (k - 2) ≤ length ram
+growing_of : (size n k : ℕ) (ram dir : List ℕ) → 8192 - size + room_of (part 768 n dir) + 2 * (k - 2) ≤ length ram
     → growing (part_of size n k ram dir) ≡ (eqb k 0 || sized (len_of (get_or dir (768 + n) 0)) && ltb (2 * k) (4 + round4 (len_of (get_or dir (768 + n) 0))))
 unfolding part_of
-growing-of size n zero ram dir h = refl
-growing-of size n (suc k) ram dir h =
-    rw (eq-eqb (length (part (8192 - size + roomOf (part 768 n dir)) (2 * (suc k - 2)) ram)) (2 * (suc k - 2)) (part_length ram (8192 - size + roomOf (part 768 n dir)) (2 * (suc k - 2)) h))
+growing_of size n zero ram dir h = refl
+growing_of size n (suc k) ram dir h =
+    rw (eq-eqb (length (part (8192 - size + room_of (part 768 n dir)) (2 * (suc k - 2)) ram)) (2 * (suc k - 2)) (part_length ram (8192 - size + room_of (part 768 n dir)) (2 * (suc k - 2)) h))
 
 -- where all that is written fits, the tests on the words of the directory say that the FIFO is orderly
-orderly-same : (size : ℕ) (f : Fifo) (ram dir : List ℕ) → store.Sound (txArea size) f.packets ram dir → roomOf (part 768 f.packets dir) + 4 * f.packets + 2 * f.words ≤ size
-    → (goodWords (part 768 f.packets dir)
+orderly-same : (size : ℕ) (f : Fifo) (ram dir : List ℕ) → store.Sound (tx_area size) f.packets ram dir → room_of (part 768 f.packets dir) + 4 * f.packets + 2 * f.words ≤ size
+    → (good_words (part 768 f.packets dir)
     && (eqb f.words 0 || sized (len_of (get_or dir (768 + f.packets) 0)) && ltb (2 * f.words) (4 + round4 (len_of (get_or dir (768 + f.packets) 0)))))
-    ≡ orderly size (queueOf size f ram dir)
+    ≡ orderly size (queue_of size f ram dir)
 orderly-same size f ram dir S fits =
     let n : ℕ = f.packets in
     let k : ℕ = f.words in
-    let l : length (part (8192 - size) size ram) ≡ size = part_length ram (8192 - size) size S.in-ram in
-    let g : allSized (packetsOf size n ram dir) ≡ goodWords (part 768 n dir) = good-frames (part 768 n dir) (part (8192 - size) size ram) (omega (arith, S.room)) in
-    rw (growing-of size n k ram dir (omega (arith, S.in-ram)), words_of size n k ram dir, room_of size n ram dir S, g, le-leb (roomOf (part 768 n dir) + 4 * n + 2 * k) size fits)
+    let l : length (part (8192 - size) size ram) ≡ size = part_length ram (8192 - size) size S.in_ram in
+    let g : all_sized (packets_of size n ram dir) ≡ good_words (part 768 n dir) = good-frames (part 768 n dir) (part (8192 - size) size ram) (omega (arith, S.room)) in
+    rw (growing_of size n k ram dir (omega (arith, S.in_ram)), words_of size n k ram dir, room_of_lem size n ram dir S, g, le-leb (room_of (part 768 n dir) + 4 * n + 2 * k) size fits)
 
 -- ---- the test, as facts, both ways
 
-pub sound-holds : (size : ℕ) (f : Fifo) (ram dir : List ℕ) → size ≤ 4096 → 8192 ≤ length ram → 1110 ≤ length dir → soundFifo size f ram dir ≡ true → Holds size f ram dir
-unfolding soundFifo
+pub sound-holds : (size : ℕ) (f : Fifo) (ram dir : List ℕ) → size ≤ 4096 → 8192 ≤ length ram → 1110 ≤ length dir → sound_fifo size f ram dir ≡ true → Holds size f ram dir
+unfolding sound_fifo
 sound-holds size f ram dir small hr hd h =
     let a : Bool = leb f.packets 341 in
-    let b : Bool = leb (roomOf (part 768 f.packets dir)) size in
-    let left : ℕ = free size (queueOf size f ram dir) in
-    let p = both (a && b && eqb f.free left) (orderly size (queueOf size f ram dir)) h in
+    let b : Bool = leb (room_of (part 768 f.packets dir)) size in
+    let left : ℕ = free size (queue_of size f ram dir) in
+    let p = both (a && b && eqb f.free left) (orderly size (queue_of size f ram dir)) h in
     let n = both (a && b) (eqb f.free left) p.0 in
     let q = both a b n.0 in
     record {
       small = small;
       packed = record {
         lies = record {
-          in-ram = omega arith;
-          in-dir = omega arith;
+          in_ram = omega arith;
+          in_dir = omega arith;
           few = omega (arith, leb-true f.packets 341 q.0);
           small = omega arith;
-          room = leb-true (roomOf (part 768 f.packets dir)) size q.1;
+          room = leb-true (room_of (part 768 f.packets dir)) size q.1;
         };
         counted = eqb-true f.free left n.1;
       };
       calm = p.1;
     }
 
-pub holds-sound : (size : ℕ) (f : Fifo) (ram dir : List ℕ) → Holds size f ram dir → soundFifo size f ram dir ≡ true
-unfolding soundFifo
+pub holds-sound : (size : ℕ) (f : Fifo) (ram dir : List ℕ) → Holds size f ram dir → sound_fifo size f ram dir ≡ true
+unfolding sound_fifo
 holds-sound size f ram dir H =
     let F = facts size f ram dir H in
     let few : f.packets ≤ 341 = omega (arith, F.place) in
-    rw (H.calm, le-leb f.packets 341 few, le-leb (roomOf (part 768 f.packets dir)) size H.packed.lies.room, eq-eqb f.free (free size (queueOf size f ram dir)) H.packed.counted)
+    rw (H.calm, le-leb f.packets 341 few, le-leb (room_of (part 768 f.packets dir)) size H.packed.lies.room, eq-eqb f.free (free size (queue_of size f ram dir)) H.packed.counted)
 
 -- ---- the test, on the words of the directory
 
 -- a FIFO that cannot be sound is not
-pub unsound : (size : ℕ) (f : Fifo) (ram dir : List ℕ) → size ≤ 4096 → 8192 ≤ length ram → 1110 ≤ length dir → (Holds size f ram dir → ⊥) → soundFifo size f ram dir ≡ false
-unsound size f ram dir small hr hd off = by-test (soundFifo size f ram dir) (λ y. absurd (off (sound-holds size f ram dir small hr hd y))) (λ m. m)
+pub unsound : (size : ℕ) (f : Fifo) (ram dir : List ℕ) → size ≤ 4096 → 8192 ≤ length ram → 1110 ≤ length dir → (Holds size f ram dir → ⊥) → sound_fifo size f ram dir ≡ false
+unsound size f ram dir small hr hd off = by_test (sound_fifo size f ram dir) (λ y. absurd (off (sound-holds size f ram dir small hr hd y))) (λ m. m)
 
 -- where what is taken and TX Free are all `size` bytes, the lengths decide
-pub shared-sound : (size : ℕ) (f : Fifo) (ram dir : List ℕ) → size ≤ 4096 → 8192 ≤ length ram → 1110 ≤ length dir → f.packets ≤ 341
-    → roomOf (part 768 f.packets dir) + 4 * f.packets + 2 * f.words + f.free ≡ size
-    → (goodWords (part 768 f.packets dir)
+pub shared_sound : (size : ℕ) (f : Fifo) (ram dir : List ℕ) → size ≤ 4096 → 8192 ≤ length ram → 1110 ≤ length dir → f.packets ≤ 341
+    → room_of (part 768 f.packets dir) + 4 * f.packets + 2 * f.words + f.free ≡ size
+    → (good_words (part 768 f.packets dir)
     && (eqb f.words 0 || sized (len_of (get_or dir (768 + f.packets) 0)) && ltb (2 * f.words) (4 + round4 (len_of (get_or dir (768 + f.packets) 0)))))
-    ≡ soundFifo size f ram dir
-unfolding soundFifo
-shared-sound size f ram dir small hr hd few e =
-    let S : store.Sound (txArea size) f.packets ram dir = record { in-ram = omega arith; in-dir = omega arith; few = omega arith; small = omega arith; room = omega arith } in
-    let counted : f.free ≡ free size (queueOf size f ram dir) = omega (arith, free_of size f ram dir S) in
-    rw (le-leb f.packets 341 few, le-leb (roomOf (part 768 f.packets dir)) size S.room, eq-eqb f.free (free size (queueOf size f ram dir)) counted)
+    ≡ sound_fifo size f ram dir
+unfolding sound_fifo
+shared_sound size f ram dir small hr hd few e =
+    let S : store.Sound (tx_area size) f.packets ram dir = record { in_ram = omega arith; in_dir = omega arith; few = omega arith; small = omega arith; room = omega arith } in
+    let counted : f.free ≡ free size (queue_of size f ram dir) = omega (arith, free_of size f ram dir S) in
+    rw (le-leb f.packets 341 few, le-leb (room_of (part 768 f.packets dir)) size S.room, eq-eqb f.free (free size (queue_of size f ram dir)) counted)
     (orderly-same size f ram dir S (omega arith))

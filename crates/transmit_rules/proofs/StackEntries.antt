@@ -38,9 +38,9 @@ some_of (x ∷ xs) zero len = refl
 some_of (x ∷ xs) (suc n) len = sym (lt-ltb 0 (suc n) (omega arith))
 
 -- one more entry is shifted down, within the entries: those from i on are still as they were
-pub shift-more : (xs ys : List ℕ) (i : ℕ) → length ys ≡ length xs → i + 1 < length xs → take i ys ≡ take i (drop 1 xs) → drop i ys ≡ drop i xs
+pub shift_more : (xs ys : List ℕ) (i : ℕ) → length ys ≡ length xs → i + 1 < length xs → take i ys ≡ take i (drop 1 xs) → drop i ys ≡ drop i xs
     → take (i + 1) (set ys i (get_or ys (i + 1) 0)) ≡ take (i + 1) (drop 1 xs)
-shift-more xs ys i len within was kept =
+shift_more xs ys i len within was kept =
     let a : i < length ys = omega arith in
     let b : i < length (drop 1 xs) = simp length-drop (omega arith) in
     let next : get_or ys (i + 1) 0 ≡ get_or xs (i + 1) 0 = rw (← get_or-drop i ys 1 0, kept, get_or-drop i xs 1 0) in
@@ -55,8 +55,8 @@ rest-take [] n = simp take-nil
 rest-take (x ∷ xs) n = refl
 
 -- the loop is left at the last entry, i
-pub shift-done : (xs ys : List ℕ) (i n : ℕ) → i + 1 ≡ n → take i ys ≡ take i (drop 1 xs) → take (n - 1) ys ≡ rest (take n xs)
-shift-done xs ys i n e was =
+pub shift_done : (xs ys : List ℕ) (i n : ℕ) → i + 1 ≡ n → take i ys ≡ take i (drop 1 xs) → take (n - 1) ys ≡ rest (take n xs)
+shift_done xs ys i n e was =
     let last : n - 1 ≡ i = omega arith in
     rw (last, was, ← e, add-one i) (rest-take xs i)
 

@@ -11,5 +11,5 @@ newest-last : added 192 (136 ∷ []) ≡ 136 ∷ 192 ∷ []
 newest-last = refl
 
 -- where there is room at most 30 stand, so that there are never more than 31
-thirty-one : (s : Statuses) → Room s → s.count ≤ 30
-thirty-one s r = omega (arith, r)
+thirty_one : (s : Statuses) → Room s → s.count ≤ 30
+thirty_one s r = omega (arith, r)

@@ -10,7 +10,7 @@ use Rattle.transmit_rules.specs.Queue.{no_part, Queue, room, free}
 use Rattle.transmit_rules.specs.Write.{sized, put}
 use Rattle.transmit_rules.specs.Whole.{puts, bytes_of}
 use Rattle.transmit_rules.proofs.QueueKeeps.{room_snoc}
-use Rattle.transmit_rules.proofs.Put.{put-opens, put_second, put-more, completes, goes_on}
+use Rattle.transmit_rules.proofs.Put.{put-opens, put_second, put_more, completes, goes_on_lem}
 
 -- the queue while k words of the packet of preamble w have come, with the bytes bs
 abbrev during : List Frame → ℕ → ℕ → List ℕ → Queue
@@ -24,11 +24,11 @@ rest : (size w k : ℕ) (ps : List Frame) (bs : List ℕ) (v : ℕ) (vs : List �
 unfolding puts bytes_of free
 rest size w k ps bs v [] h e s =
     let l : length (bs ++ (v % 256 ∷ v / 256 ∷ [])) ≡ round4 (len_of w) = length-append bs (v % 256 ∷ v / 256 ∷ []) ∙ omega arith in
-    put-more size v (during ps w k bs) refl (omega arith) h ∙ completes (during ps w (k + 1) (bs ++ (v % 256 ∷ v / 256 ∷ []))) l
+    put_more size v (during ps w k bs) refl (omega arith) h ∙ completes (during ps w (k + 1) (bs ++ (v % 256 ∷ v / 256 ∷ []))) l
 rest size w k ps bs v (u ∷ vs) h e s =
     let cs : List ℕ = bs ++ (v % 256 ∷ v / 256 ∷ []) in
     let l : length cs ≡ length bs + 2 = length-append bs (v % 256 ∷ v / 256 ∷ []) in
-    ap (λ (q : Queue). puts size (u ∷ vs) q) (put-more size v (during ps w k bs) refl (omega arith) h ∙ goes_on (during ps w (k + 1) cs) (λ z. omega (arith, z)))
+    ap (λ (q : Queue). puts size (u ∷ vs) q) (put_more size v (during ps w k bs) refl (omega arith) h ∙ goes_on_lem (during ps w (k + 1) cs) (λ z. omega (arith, z)))
     ∙ rest size w (k + 1) ps cs u vs (omega arith) (omega arith) (omega arith)
     ∙ ap (λ (b : List ℕ). done ps w b) (append_assoc bs (v % 256 ∷ v / 256 ∷ []) (bytes_of (u ∷ vs)))
 
@@ -45,6 +45,6 @@ written-whole size w z v vs ps g e s =
     ∙ rest size w 2 ps [] v vs (omega arith) (omega arith) (omega arith)
 
 -- TX Free falls by 4 and the length rounded up to 4
-pub free-falls : (size : ℕ) (ps : List Frame) (p : Frame) → free size (record { failed = false; packets = ps ++ (p ∷ []); part = no_part }) ≡ size - room ps - (4 + round4 (length p.bytes))
+pub free_falls : (size : ℕ) (ps : List Frame) (p : Frame) → free size (record { failed = false; packets = ps ++ (p ∷ []); part = no_part }) ≡ size - room ps - (4 + round4 (length p.bytes))
 unfolding free
-free-falls size ps p = omega (arith, room_snoc ps p)
+free_falls size ps p = omega (arith, room_snoc ps p)

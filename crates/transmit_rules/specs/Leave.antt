@@ -11,17 +11,17 @@ wanted p = has 16 p.head
 abbrev pub checked : Frame → Bool
 checked p = has 4 p.head
 
-unfoldable pub oldestWanted : List Frame → Bool
-oldestWanted [] = false
-oldestWanted (p ∷ ps) = wanted p
+unfoldable pub oldest_wanted : List Frame → Bool
+oldest_wanted [] = false
+oldest_wanted (p ∷ ps) = wanted p
 
 -- Its bytes, then zeros up to 60 unless bit 13 was set.
 abbrev pub told : Frame → List ℕ
 told p = p.bytes ++ replicate (cond (checked p) 0 (60 - length p.bytes)) 0
 
-unfoldable pub toldOf : List Frame → List ℕ
-toldOf [] = []
-toldOf (p ∷ ps) = told p
+unfoldable pub told_of : List Frame → List ℕ
+told_of [] = []
+told_of (p ∷ ps) = told p
 
 unfoldable pub others : List Frame → List Frame
 others [] = []

@@ -3,35 +3,35 @@ use Rattle.std.specs.Prelude.{[], ◌∷◌, ◌++◌, Bool, true, false, cond, 
 -- the oldest status, whether there is one, and all but the oldest
 unfoldable pub use Rattle.transmit_rules.specs.Stack.{top, some, rest}
 use Rattle.transmit_rules.specs.declared.Sender.{Sender}
-use Rattle.transmit_rules.specs.Reports.{Reports, withSender, withStatuses, withOn, withAvailable, withLevel, withStart}
+use Rattle.transmit_rules.specs.Reports.{Reports, with_sender, with_statuses, with_on, with_available, with_level, with_start}
 
 -- the disabled thresholds, as at power-on
-abbrev pub levelDefault : ℕ
-levelDefault = 2044
+abbrev pub level_default : ℕ
+level_default = 2044
 
-abbrev pub startDefault : ℕ
-startDefault = 2044
+abbrev pub start_default : ℕ
+start_default = 2044
 
 -- Power-on: off, TX Available clear, both thresholds disabled, no status.
-abbrev pub atPowerOn : Reports
-atPowerOn = record { sender = record { on = false; available = false; level = levelDefault; start = startDefault }; statuses = [] }
+abbrev pub at_power_on : Reports
+at_power_on = record { sender = record { on = false; available = false; level = level_default; start = start_default }; statuses = [] }
 
 -- ---- the status stack
 
 -- The stack is 31 deep. The push that fills it adds 04h and turns the transmitter off.
 unfoldable pub push : ℕ → Reports → Reports
 push v r =
-    cond (ltb (length r.statuses) 30) (withStatuses (r.statuses ++ (v ∷ [])) r)
-    (cond (ltb (length r.statuses) 31) (record { sender = withOn false r.sender; statuses = r.statuses ++ ((v + 4) ∷ []) }) r)
+    cond (ltb (length r.statuses) 30) (with_statuses (r.statuses ++ (v ∷ [])) r)
+    (cond (ltb (length r.statuses) 31) (record { sender = with_on false r.sender; statuses = r.statuses ++ ((v + 4) ∷ []) }) r)
 
 -- A write pops the oldest; it does nothing on an empty stack.
 abbrev pub pop : Reports → Reports
-pop r = withStatuses (rest r.statuses) r
+pop r = with_statuses (rest r.statuses) r
 
 -- ---- the outcomes
 
 abbrev pub off : Reports → Reports
-off r = withSender (withOn false r.sender) r
+off r = with_sender (with_on false r.sender) r
 
 -- Success pushes C0h with bit 15 (`wanted`), else nothing.
 unfoldable pub succeeded : Bool → Reports → Reports
@@ -46,21 +46,21 @@ collided wanted r = off (push (cond wanted 200 136) r)
 
 -- TX Enable does nothing while the stack is full.
 unfoldable pub enable : Reports → Reports
-enable r = withSender (withOn (r.sender.on || ltb (length r.statuses) 31) r.sender) r
+enable r = with_sender (with_on (r.sender.on || ltb (length r.statuses) 31) r.sender) r
 
 -- TX Reset turns the transmitter off and sets both thresholds to their defaults; statuses stay, and so does TX Available.
 abbrev pub reset : Reports → Reports
-reset r = withSender (record { on = false; available = r.sender.available; level = levelDefault; start = startDefault }) r
+reset r = with_sender (record { on = false; available = r.sender.available; level = level_default; start = start_default }) r
 
 -- The low two bits of a threshold's argument are dropped.
 abbrev pub fours : ℕ → ℕ
 fours n = n / 4 * 4
 
-abbrev pub setLevel : ℕ → Reports → Reports
-setLevel n r = withSender (withLevel (fours n) r.sender) r
+abbrev pub set_level : ℕ → Reports → Reports
+set_level n r = with_sender (with_level (fours n) r.sender) r
 
-abbrev pub setStart : ℕ → Reports → Reports
-setStart n r = withSender (withStart (fours n) r.sender) r
+abbrev pub set_start : ℕ → Reports → Reports
+set_start n r = with_sender (with_start (fours n) r.sender) r
 
 -- ---- TX Available
 
@@ -68,17 +68,17 @@ setStart n r = withSender (withStart (fours n) r.sender) r
 unfoldable pub due : ℕ → Sender → Bool
 due free s = leb s.level 1792 && ltb s.level free
 
-abbrev pub settleAvailable : ℕ → Reports → Reports
-settleAvailable free r = withSender (withAvailable (due free r.sender || r.sender.available) r.sender) r
+abbrev pub settle_available : ℕ → Reports → Reports
+settle_available free r = with_sender (with_available (due free r.sender || r.sender.available) r.sender) r
 
 -- Acknowledging it (`named`) while set clears it and disables the threshold.
 abbrev pub acknowledge : Bool → Reports → Reports
 acknowledge named r =
-    withSender
+    with_sender
     (record {
       on = r.sender.on;
       available = not named && r.sender.available;
-      level = cond (named && r.sender.available) levelDefault r.sender.level;
+      level = cond (named && r.sender.available) level_default r.sender.level;
       start = r.sender.start;
     }) r
 
@@ -91,5 +91,5 @@ filled r =
     && leb r.sender.level 2047 && leb r.sender.start 2047
 
 -- TX Available stands if it is due.
-abbrev pub availableSettled : ℕ → Sender → Bool
-availableSettled free s = s.available || not (due free s)
+abbrev pub available_settled : ℕ → Sender → Bool
+available_settled free s = s.available || not (due free s)

@@ -4,9 +4,9 @@ use Rattle.store.specs.Store.{Frame, len_of, round4}
 use Rattle.transmit_rules.specs.Queue.{Part, Queue, room}
 use Rattle.transmit_rules.specs.Write.{sized}
 
-unfoldable pub allSized : List Frame → Bool
-allSized [] = true
-allSized (p ∷ ps) = sized (length p.bytes) && allSized ps
+unfoldable pub all_sized : List Frame → Bool
+all_sized [] = true
+all_sized (p ∷ ps) = sized (length p.bytes) && all_sized ps
 
 -- A packet being written has the bytes of its words, a good length, and is not whole yet.
 abbrev pub growing : Part → Bool
@@ -16,4 +16,4 @@ growing p =
 
 -- All that is written fits in `size`.
 abbrev pub orderly : ℕ → Queue → Bool
-orderly size q = leb (room q.packets + 2 * q.part.words) size && allSized q.packets && growing q.part
+orderly size q = leb (room q.packets + 2 * q.part.words) size && all_sized q.packets && growing q.part

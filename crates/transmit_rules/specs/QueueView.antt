@@ -2,53 +2,53 @@
 use Rattle.std.specs.Prelude.{◌≡◌, List, [], ◌∷◌, ◌++◌, Bool, true, ◌&&◌, ℕ, zero, suc, ◌+◌, ◌*◌, ◌-◌, ◌%◌, ◌≤◌, length, drop, get_or, leb, eqb}
 use Rattle.store.specs.declared.Area.{Area}
 use Rattle.store.specs.Store as store
-use Rattle.store.specs.Store.{Frame, roomOf, words, part}
+use Rattle.store.specs.Store.{Frame, room_of, words, part}
 use Rattle.transmit_rules.specs.declared.Fifo.{Fifo}
 use Rattle.transmit_rules.specs.Queue.{Part, no_part, Queue, free}
 use Rattle.transmit_rules.specs.Write.{sized}
 use Rattle.transmit_rules.specs.QueueSound.{orderly}
 
 -- The transmit area: the last `size` bytes of the memory, with 342 words of the directory.
-abbrev pub txArea : ℕ → Area
-txArea size = record { base = 8192 - size; size = size; first = 768; slots = 342 }
+abbrev pub tx_area : ℕ → Area
+tx_area size = record { base = 8192 - size; size = size; first = 768; slots = 342 }
 
-abbrev pub packetsOf : ℕ → ℕ → List ℕ → List ℕ → List Frame
-packetsOf size n ram dir = store.view (txArea size) n ram dir
+abbrev pub packets_of : ℕ → ℕ → List ℕ → List ℕ → List Frame
+packets_of size n ram dir = store.view (tx_area size) n ram dir
 
 -- The packet being written: its preamble in the place after the whole packets', its data behind theirs.
 abbrev pub growth : ℕ → ℕ → ℕ → List ℕ → List ℕ → Part
 growth size n k ram dir =
-    record { words = k; preamble = get_or dir (768 + n) 0; bytes = part (8192 - size + roomOf (part 768 n dir)) (2 * (k - 2)) ram }
+    record { words = k; preamble = get_or dir (768 + n) 0; bytes = part (8192 - size + room_of (part 768 n dir)) (2 * (k - 2)) ram }
 
 unfoldable pub part_of : ℕ → ℕ → ℕ → List ℕ → List ℕ → Part
 part_of size n zero ram dir = no_part
 part_of size n (suc k) ram dir = growth size n (suc k) ram dir
 
-abbrev pub queueOf : ℕ → Fifo → List ℕ → List ℕ → Queue
-queueOf size f ram dir =
-    record { failed = f.failed; packets = packetsOf size f.packets ram dir; part = part_of size f.packets f.words ram dir }
+abbrev pub queue_of : ℕ → Fifo → List ℕ → List ℕ → Queue
+queue_of size f ram dir =
+    record { failed = f.failed; packets = packets_of size f.packets ram dir; part = part_of size f.packets f.words ram dir }
 
 -- TX Free stands as a count: it is what the sum over the packets, and the words of the one being written, leave
 abbrev pub Counted : ℕ → Fifo → List ℕ → List ℕ → Type 0
-Counted size f ram dir = f.free ≡ free size (queueOf size f ram dir)
+Counted size f ram dir = f.free ≡ free size (queue_of size f ram dir)
 
 -- the packets lie in their area, and TX Free is counted
 pub record Packed (size : ℕ) (f : Fifo) (ram dir : List ℕ) : Type 0 where
-  pub lies : store.Sound (txArea size) f.packets ram dir
+  pub lies : store.Sound (tx_area size) f.packets ram dir
   pub counted : Counted size f ram dir
 
 -- the FIFO is sound
 pub record Holds (size : ℕ) (f : Fifo) (ram dir : List ℕ) : Type 0 where
   pub small : size ≤ 4096
   pub packed : Packed size f ram dir
-  pub calm : orderly size (queueOf size f ram dir) ≡ true
+  pub calm : orderly size (queue_of size f ram dir) ≡ true
 
 -- the FIFO is q, and nothing outside its area has changed
 pub record Turns (size : ℕ) (f : Fifo) (ram dir ram' dir' : List ℕ) (q : Queue) : Type 0 where
-  pub holds : queueOf size f ram' dir' ≡ q
+  pub holds : queue_of size f ram' dir' ≡ q
   pub packed : Packed size f ram' dir'
-  pub ram-kept : store.Kept (8192 - size) size ram ram'
-  pub dir-kept : store.Kept 768 342 dir dir'
+  pub ram_kept : store.Kept (8192 - size) size ram ram'
+  pub dir_kept : store.Kept 768 342 dir dir'
 
 -- the first n bytes of an area are those told, and the rest is as it was
 pub record Tells (n : ℕ) (out out' told : List ℕ) : Type 0 where
@@ -56,14 +56,14 @@ pub record Tells (n : ℕ) (out out' told : List ℕ) : Type 0 where
   pub says : out' ≡ told ++ drop n out
 
 -- The test that a call makes of what it is handed.
-unfoldable pub soundFifo : ℕ → Fifo → List ℕ → List ℕ → Bool
-soundFifo size f ram dir =
+unfoldable pub sound_fifo : ℕ → Fifo → List ℕ → List ℕ → Bool
+sound_fifo size f ram dir =
     leb f.packets 341
-    && leb (roomOf (part 768 f.packets dir)) size
-    && eqb f.free (free size (queueOf size f ram dir))
-    && orderly size (queueOf size f ram dir)
+    && leb (room_of (part 768 f.packets dir)) size
+    && eqb f.free (free size (queue_of size f ram dir))
+    && orderly size (queue_of size f ram dir)
 
 -- a good length in every word of a directory
-unfoldable pub goodWords : List ℕ → Bool
-goodWords [] = true
-goodWords (w ∷ ws) = sized (w % 2048) && goodWords ws
+unfoldable pub good_words : List ℕ → Bool
+good_words [] = true
+good_words (w ∷ ws) = sized (w % 2048) && good_words ws

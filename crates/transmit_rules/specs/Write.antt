@@ -10,8 +10,8 @@ sized n = leb 6 n && leb n 1792
 abbrev pub fails : Queue → Queue
 fails q = record { failed = true; packets = q.packets; part = q.part }
 
-abbrev pub withPart : Part → Queue → Queue
-withPart p q = record { failed = q.failed; packets = q.packets; part = p }
+abbrev pub with_part : Part → Queue → Queue
+with_part p q = record { failed = q.failed; packets = q.packets; part = p }
 
 -- the first preamble word, with the length in bits 10-0; the second; and a word of data, low byte first
 abbrev pub opened : ℕ → Part
@@ -39,6 +39,6 @@ unfoldable pub put : ℕ → ℕ → Queue → Queue
 put size v q =
     cond q.failed q
     (cond (ltb (free size q) 2) (fails q)
-    (cond (eqb q.part.words 0) (cond (sized (len_of v)) (withPart (opened v) q) (fails q))
-    (cond (eqb q.part.words 1) (withPart (second q.part) q)
-    (completed (withPart (written v q.part) q)))))
+    (cond (eqb q.part.words 0) (cond (sized (len_of v)) (with_part (opened v) q) (fails q))
+    (cond (eqb q.part.words 1) (with_part (second q.part) q)
+    (completed (with_part (written v q.part) q)))))

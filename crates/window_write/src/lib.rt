@@ -1,12 +1,12 @@
 // The register map: what a write does, window by window. A write covers both bytes of a register, its low byte or its high byte.
 ghost use Rattle.std.specs.Prelude.{◌≡◌, ◌%◌, ◌<◌};
 ghost use Rattle.transmit_rules.specs.OutcomesView.{Stacked};
-ghost use Rattle.card_rules.specs.Update.{idAddress, idShift, configResource, configFirst};
-ghost use Rattle.card_rules.specs.Groups.{cardId, cardConfig};
+ghost use Rattle.card_rules.specs.Update.{id_address, id_shift, config_resource, config_first};
+ghost use Rattle.card_rules.specs.Groups.{card_id, card_config};
 ghost use Rattle.card_rules.specs.View.{view, Sound, Is, Does};
 ghost use Rattle.transmit_rules.specs.Outcome.{pop};
 ghost use Rattle.card_rules.specs.Command.{reported};
-ghost use Rattle.card_rules.specs.Write.{writing, mixed as mixedOf, coversLow, coversHigh, controlled, eeprom as eepromOf, onLow, write0, write1, write2, write3, resplit as resplitOf, write as writeOf};
+ghost use Rattle.card_rules.specs.Write.{writing, mixed as mixed_of, covers_low, covers_high, controlled, eeprom as eeprom_of, on_low, write0, write1, write2, write3, resplit as resplit_of, write as write_of};
 
 use card_rules::{Card, Lanes};
 
@@ -14,7 +14,7 @@ mod setup; // setup.rt: the EEPROM behind window 0: its commands, at once
 
 // A register as a write leaves it.
 fn mixed(l: Lanes, v: u16, old: u16) -> u16
-    ensures { result ≡ mixedOf l v old }
+    ensures { result ≡ mixed_of l v old }
 {
     match l {
         Lanes::Both => v,
@@ -24,7 +24,7 @@ fn mixed(l: Lanes, v: u16, old: u16) -> u16
 }
 
 fn covers_low(l: Lanes) -> bool
-    ensures { result ≡ coversLow l }
+    ensures { result ≡ covers_low l }
 {
     match l {
         Lanes::Both => true,
@@ -34,7 +34,7 @@ fn covers_low(l: Lanes) -> bool
 }
 
 fn covers_high(l: Lanes) -> bool
-    ensures { result ≡ coversHigh l }
+    ensures { result ≡ covers_high l }
 {
     match l {
         Lanes::Both => true,
@@ -45,7 +45,7 @@ fn covers_high(l: Lanes) -> bool
 
 // Configuration Control.
 fn control(c: Card, l: Lanes, v: u16) -> Card
-    ensures { Does c result (onLow l controlled v) }
+    ensures { Does c result (on_low l controlled v) }
 {
     if !covers_low(l) {
         return c;
@@ -62,7 +62,7 @@ fn control(c: Card, l: Lanes, v: u16) -> Card
 
 // Address Configuration.
 fn set_address(c: Card, v: u16) -> Card
-    ensures { result ≡ cardId (idAddress v c.id) c }
+    ensures { result ≡ card_id (id_address v c.id) c }
 {
     let mut next = c;
     next.id.address = v;
@@ -71,7 +71,7 @@ fn set_address(c: Card, v: u16) -> Card
 
 // Resource Configuration.
 fn set_resource(c: Card, v: u16) -> Card
-    ensures { result ≡ cardConfig (configResource v c.config) c }
+    ensures { result ≡ card_config (config_resource v c.config) c }
 {
     let mut next = c;
     next.config.resource = v;
@@ -80,7 +80,7 @@ fn set_resource(c: Card, v: u16) -> Card
 
 // The EEPROM command.
 fn eeprom(c: Card, l: Lanes, v: u16) -> Card
-    ensures { Does c result (onLow l eepromOf v) }
+    ensures { Does c result (on_low l eeprom_of v) }
 {
     if !covers_low(l) {
         return c;
@@ -96,7 +96,7 @@ fn eeprom(c: Card, l: Lanes, v: u16) -> Card
 
 // EEPROM data.
 fn set_shift(c: Card, v: u16) -> Card
-    ensures { result ≡ cardId (idShift v c.id) c }
+    ensures { result ≡ card_id (id_shift v c.id) c }
 {
     let mut next = c;
     next.id.shift = v;
@@ -176,7 +176,7 @@ fn write_2(c: Card, l: Lanes, o: u16, v: u16) -> Card
 
 // The first Internal Configuration word.
 fn set_first(c: Card, v: u16) -> Card
-    ensures { result ≡ cardConfig (configFirst v c.config) c }
+    ensures { result ≡ card_config (config_first v c.config) c }
 {
     let mut next = c;
     next.config.first = v;
@@ -185,7 +185,7 @@ fn set_first(c: Card, v: u16) -> Card
 
 // The second: a split written with a FIFO in use does nothing; with none in use each side's room is free.
 fn resplit(c: Card, v: u16) -> Card
-    ensures { Does c result (resplitOf v) }
+    ensures { Does c result (resplit_of v) }
 {
     let frames = c.receive.frames;
     let packets = c.transmit.fifo.packets;
@@ -219,7 +219,7 @@ fn write_3(c: Card, l: Lanes, o: u16, v: u16) -> Card
 // A register of the selected window.
 pub fn write(ram: &mut [u8], dir: &mut [u16], c: Card, l: Lanes, o: u16, v: u16) -> Card
     requires { Sound c ram.old dir.old × (o % 2 ≡ 0) }
-    ensures { Is result ram.new dir.new (writeOf l o v (view c ram.old dir.old)) }
+    ensures { Is result ram.new dir.new (write_of l o v (view c ram.old dir.old)) }
 {
     let window = c.select.window;
     match window {

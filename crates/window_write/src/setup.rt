@@ -1,6 +1,6 @@
 // The EEPROM behind window 0: its commands, at once.
 ghost use Rattle.std.specs.Prelude.{◌≡◌, ◌<◌};
-ghost use Rattle.card_rules.specs.Eeprom.{leaving as leavingOf, write_all, eraseAll, writeWord, eraseWord, readWord, whole, promCommand};
+ghost use Rattle.card_rules.specs.Eeprom.{leaving as leaving_of, write_all, erase_all, write_word, erase_word, read_word, whole, prom_command};
 
 use card_rules::{Prom, Setup};
 use port_rules::IdState;
@@ -8,7 +8,7 @@ use port_rules::IdState;
 // Read Register.
 fn read_register(i: IdState, n: usize) -> IdState
     requires { n < 64 }
-    ensures { result ≡ readWord n i }
+    ensures { result ≡ read_word n i }
 {
     let w = i.words[n];
     let mut next = i;
@@ -19,7 +19,7 @@ fn read_register(i: IdState, n: usize) -> IdState
 // Write Register.
 fn write_register(i: IdState, n: usize) -> IdState
     requires { n < 64 }
-    ensures { result ≡ writeWord n i }
+    ensures { result ≡ write_word n i }
 {
     let w = i.words[n] & i.shift;
     let mut next = i;
@@ -30,7 +30,7 @@ fn write_register(i: IdState, n: usize) -> IdState
 // Erase Register.
 fn erase_register(i: IdState, n: usize) -> IdState
     requires { n < 64 }
-    ensures { result ≡ eraseWord n i }
+    ensures { result ≡ erase_word n i }
 {
     let mut next = i;
     next.words[n] = 65535;
@@ -53,7 +53,7 @@ fn write_all(i: IdState) -> IdState
 
 // Erase All Registers.
 fn erase_all(i: IdState) -> IdState
-    ensures { result ≡ eraseAll i }
+    ensures { result ≡ erase_all i }
 {
     let mut next = i;
     next.words = [65535; 64];
@@ -62,7 +62,7 @@ fn erase_all(i: IdState) -> IdState
 
 // The state that a command leaves: its byte is kept, and whether erasing and writing is enabled after it.
 fn leaving(v: u8, writable: bool, i: IdState) -> Setup
-    ensures { result ≡ leavingOf v writable i }
+    ensures { result ≡ leaving_of v writable i }
 {
     Setup {
         id: i,
@@ -98,7 +98,7 @@ fn whole_command(v: u8, i: IdState, p: Prom) -> Setup
 
 // An EEPROM command.
 pub fn prom_command(v: u8, i: IdState, p: Prom) -> Setup
-    ensures { result ≡ promCommand v i p }
+    ensures { result ≡ prom_command v i p }
 {
     let code = v / 64;
     let n = (v % 64) as usize;

@@ -2,7 +2,7 @@
 use mathlib.Core.Path.{refl, ap}
 use mir.Syntax.{w16}
 use mir.ValLaws.{to_z-of_z}
-use Rattle.bench_rules.specs.Answers.{rxStatusLine, line_of}
+use Rattle.bench_rules.specs.Answers.{rx_status_line, line_of}
 use Rattle.bench_rules.proofs.Placed.{as_said}
 use Rattle.bench_rules.proofs.Spoken.{said}
 use Rattle.answers.proofs.say.Statement.{statement}
@@ -191,7 +191,7 @@ returns-6 c = rw c.before.before.before.reply3.given.1 (said c.byte.ensures)
 
 returns-7 : tie.Need-returns-7
 unfolding line_of
-returns-7 c = rw c.before.before.before.reply4.given.1 (said (as_said c.rx-status.ensures (ap (rxStatusLine _) (to_z-of_z w16 c.before.before.before.reply4.given.0.1.0 (search rules))) refl))
+returns-7 c = rw c.before.before.before.reply4.given.1 (said (as_said c.rx-status.ensures (ap (rx_status_line _) (to_z-of_z w16 c.before.before.before.reply4.given.0.1.0 (search rules))) refl))
 
 returns-8 : tie.Need-returns-8
 unfolding line_of

@@ -5,7 +5,7 @@ use mathlib.Core.Path.{ap}
 use mathlib.Core.Bool.{not, ◌&&◌}
 use lib.Dec.{ltb, leb, eqb}
 use Rattle.bits.proofs.Tests.{both}
-use Rattle.card_rules.proofs.StepEnds.{beside-data}
+use Rattle.card_rules.proofs.StepEnds.{beside_data}
 use Rattle.card_rules.specs.Calls.{value}
 use Rattle.card_rules.proofs.Checked.{card-told}
 use Rattle.card_rules.proofs.Judged.{fails, holds, unsound, refuses, goes}
@@ -23,7 +23,7 @@ read-byte-requires c κs =
     let s = c.before.before.before.before.before.before.before.before in
     let o = s.args.o in
     let w = s.args.c.select.window in
-    (card-told _ _ _ (search rules) (search rules) (holds c.before.before.before.before.before.is-sound.ensures c.before.before.before.before.if1.false), beside-data o w (not-true _ (both (leb o 15) (not (ltb o 4 && eqb w 1)) (holds c.before.before.before.is_byte_lem.ensures c.before.before.if2.false)).1))
+    (card-told _ _ _ (search rules) (search rules) (holds c.before.before.before.before.before.is-sound.ensures c.before.before.before.before.if1.false), beside_data o w (not-true _ (both (leb o 15) (not (ltb o 4 && eqb w 1)) (holds c.before.before.before.is_byte_lem.ensures c.before.before.if2.false)).1))
 
 returns-3 : tie.Need-returns-3
 returns-3 c =

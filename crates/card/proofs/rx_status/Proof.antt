@@ -5,18 +5,18 @@ use mathlib.Core.Path.{refl, ap₂, ◌∙◌}
 use Rattle.receive_rules.proofs.Count.{back}
 use Rattle.card_rules.specs.View.{view}
 use Rattle.card_rules.specs.declared.RxStatus.TheVariants.{Shows}
-use Rattle.card_rules.specs.RxStatus.{rxWord, rxUnread, rxTold}
+use Rattle.card_rules.specs.RxStatus.{rx_word, rx_unread, rx_told}
 use Rattle.card_rules.proofs.Checked.{card-told}
 use Rattle.card_rules.proofs.Judged.{fails, holds}
 use Rattle.card.proofs.rx_status.Statement.{statement}
 use Rattle.card.proofs.rx_status.Tie as tie
 
 returns : tie.Need-returns
-unfolding rxTold
+unfolding rx_told
 returns c = rw (fails c.before.is-sound.ensures c.if1.true) refl
 
 returns-2 : tie.Need-returns-2
-unfolding rxTold rxWord rxUnread view
+unfolding rx_told rx_word rx_unread view
 returns-2 c = rw (holds c.before.before.before.is-sound.ensures c.before.before.if1.false, not-true c.before.before.before.before.before.before.args.c.id.active c.if2.true) refl
 
 rx-status-requires : tie.Need-rx-status-requires
@@ -28,7 +28,7 @@ unread-requires c κs =
     (holds c.before.before.before.before.before.before.before.before.is-sound.ensures c.before.before.before.before.before.before.before.if1.false)
 
 returns-3 : tie.Need-returns-3
-unfolding rxTold rxWord rxUnread view
+unfolding rx_told rx_word rx_unread view
 returns-3 c =
     rw (holds c.before.before.before.before.before.before.before.before.before.is-sound.ensures c.before.before.before.before.before.before.before.before.if1.false, not-false c.before.before.before.before.before.before.before.before.before.before.before.before.args.c.id.active c.before.before.before.before.before.before.if2.false)
     (ap₂ Shows c.before.before.before.rx-status.ensures (back c.unread.result c.unread.type-inv ∙ c.unread.ensures))

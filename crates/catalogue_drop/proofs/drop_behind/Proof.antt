@@ -1,7 +1,7 @@
 -- `catalogue_drop::drop_behind` meets its contract: it finds the number and the image, and counts the versions.
 -- Assumes nothing.
 use native.Mathlib.Omega.{arith}
-use Rattle.catalogue_drop.proofs.Dropped.{Placed, placed, last_goes, one-goes}
+use Rattle.catalogue_drop.proofs.Dropped.{Placed, placed, last_goes, one_goes}
 use borrow.Author.Rules.{rules}
 use Rattle.catalogue_drop.proofs.drop_behind.Statement.{statement}
 use Rattle.catalogue_drop.proofs.drop_behind.Tie as tie
@@ -48,7 +48,7 @@ same-length-2 c = search rules
 
 returns-2 : tie.Need-returns-2
 returns-2 c =
-    one-goes c.before.before.before.before.before.before.before.before.before.before.args.file.now c.before.before.before.before.before.before.before.before.before.before.args.at c.before.before.before.before.before.before.before.before.before.before.args.fields c.before.before.before.before.before.before.before.field-place.ensures c.before.before.before.before.before.before.field-place2.ensures c.before.before.before.before.before.versions.ensures (omega arith) _ _ c.before.before.before.before.before.before.before.before.before.before.args.out.now c.before.before.copy-around2.ensures (omega arith) (omega arith)
+    one_goes c.before.before.before.before.before.before.before.before.before.before.args.file.now c.before.before.before.before.before.before.before.before.before.before.args.at c.before.before.before.before.before.before.before.before.before.before.args.fields c.before.before.before.before.before.before.before.field-place.ensures c.before.before.before.before.before.before.field-place2.ensures c.before.before.before.before.before.versions.ensures (omega arith) _ _ c.before.before.before.before.before.before.before.before.before.before.args.out.now c.before.before.copy-around2.ensures (omega arith) (omega arith)
 
 pub drop-behind-spec : {M : Type 1} → statement M
 drop-behind-spec =

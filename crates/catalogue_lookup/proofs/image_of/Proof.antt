@@ -2,7 +2,7 @@
 -- Assumes nothing.
 use mathlib.Core.Path.{sym, ap, ◌∙◌}
 use Rattle.catalogue_rules.specs.declared.Hit.{Hit}
-use Rattle.catalogue_rules.specs.Lookup.{bytesIn, shownIn}
+use Rattle.catalogue_rules.specs.Lookup.{bytes_in, shown_in}
 use borrow.Author.Rules.{rules}
 use Rattle.catalogue_lookup.proofs.image_of.Statement.{statement}
 use Rattle.catalogue_lookup.proofs.image_of.Tie as tie
@@ -26,13 +26,13 @@ slice-aggregate-result : tie.Need-slice-aggregate-result
 slice-aggregate-result c = search rules
 
 returns : tie.Need-returns
-returns c = c.part.ensures ∙ sym (ap (λ (h : Hit). bytesIn (shownIn c.before.before.before.before.before.before.args.own.now c.before.before.before.before.before.before.args.main.now h)) c.before.before.hit.given.1)
+returns c = c.part.ensures ∙ sym (ap (λ (h : Hit). bytes_in (shown_in c.before.before.before.before.before.before.args.own.now c.before.before.before.before.before.before.args.main.now h)) c.before.before.hit.given.1)
 
 returns-2 : tie.Need-returns-2
-returns-2 c = c.part2.ensures ∙ sym (ap (λ (h : Hit). bytesIn (shownIn c.before.before.before.before.before.before.args.own.now c.before.before.before.before.before.before.args.main.now h)) c.before.before.hit2.given.1)
+returns-2 c = c.part2.ensures ∙ sym (ap (λ (h : Hit). bytes_in (shown_in c.before.before.before.before.before.before.args.own.now c.before.before.before.before.before.before.args.main.now h)) c.before.before.hit2.given.1)
 
 returns-3 : tie.Need-returns-3
-returns-3 c = sym (ap (λ (h : Hit). bytesIn (shownIn c.before.before.before.before.before.args.own.now c.before.before.before.before.before.args.main.now h)) c.before.enum_told.given.1)
+returns-3 c = sym (ap (λ (h : Hit). bytes_in (shown_in c.before.before.before.before.before.args.own.now c.before.before.before.before.before.args.main.now h)) c.before.enum_told.given.1)
 
 pub image-of-spec : {M : Type 1} → statement M
 image-of-spec =

@@ -1,6 +1,6 @@
 -- `catalogue_lookup::part` meets its contract: the code's tests ask whether the part runs past the file's end.
 -- Assumes nothing.
-use Rattle.catalogue_rules.proofs.Parts.{nothing, the_rest, so-many}
+use Rattle.catalogue_rules.proofs.Parts.{nothing, the_rest, so_many}
 use borrow.Author.Rules.{rules}
 use Rattle.catalogue_lookup.proofs.part.Statement.{statement}
 use Rattle.catalogue_lookup.proofs.part.Tie as tie
@@ -39,7 +39,7 @@ part-result-end-2 : tie.Need-slice-bounds-result-end-2
 part-result-end-2 c = search rules
 
 returns-3 : tie.Need-returns-3
-returns-3 c = so-many c.before.before.before.args.file.now c.before.before.before.args.start c.before.before.before.args.len
+returns-3 c = so_many c.before.before.before.args.file.now c.before.before.before.args.start c.before.before.before.args.len
 
 pub part-spec : {M : Type 1} → statement M
 part-spec =

@@ -9,7 +9,7 @@ use mathlib.Core.List.{List}
 use lib.ListN.{length, get_or, set}
 use lib.Seq.{paste, paste-zero, paste-suc, length-paste}
 use Rattle.catalogue_rules.specs.Put.{put_at}
-use Rattle.catalogue_rules.proofs.Chain.{put-pasted}
+use Rattle.catalogue_rules.proofs.Chain.{put_pasted}
 use Rattle.catalogue_put.proofs.bytes.Statement.{statement}
 use Rattle.catalogue_put.proofs.bytes.Tie as tie
 use Rattle.catalogue_put.proofs.bytes.Reads as reads
@@ -28,7 +28,7 @@ turn {out} area at those i e fits more =
     ap (λ (l : List ℕ). set l (at + i) (get_or those i 0)) e ∙ paste-suc area at those i 0 fits more ∙ ap (paste area at those) (sym (add-one i))
 
 all : {out : List ℕ} (area : List ℕ) (at : ℕ) (those : List ℕ) (i : ℕ) → i ≡ length those → out ≡ paste area at those i → out ≡ put_at area at those
-all area at those i n e = e ∙ ap (paste area at those) n ∙ put-pasted area at those
+all area at those i n e = e ∙ ap (paste area at those) n ∙ put_pasted area at those
 
 loop-holds : tie.Need-loop-init invariant-loop decreases-loop
 loop-holds c = (omega arith, paste-zero c.args.out.now c.args.at c.args.src.now)

@@ -2,8 +2,8 @@
 -- Assumes nothing.
 use native.Mathlib.Omega.{arith}
 use Rattle.catalogue_rules.specs.Field.{field, bytes_of, written}
-use Rattle.catalogue_rules.specs.Archive.{addressIn}
-use Rattle.catalogue_rules.specs.Edit.{versionFields}
+use Rattle.catalogue_rules.specs.Archive.{address_in}
+use Rattle.catalogue_rules.specs.Edit.{version_fields}
 use Rattle.catalogue_rules.proofs.Chain.{both-put, version-length}
 use borrow.Author.Rules.{rules}
 use Rattle.catalogue_put.proofs.card.Statement.{statement}
@@ -43,7 +43,7 @@ returns : tie.Need-returns
 unfolding bytes_of
 returns c = (
   omega arith,
-  both-put c.before.before.before.before.before.before.before.before.before.before.before.before.before.before.before.before.before.args.out.now c.before.before.before.before.before.before.before.before.before.before.before.before.before.before.before.before.before.args.at (written (field 1 (addressIn c.before.before.before.before.before.before.before.before.before.before.before.before.before.before.before.before.before.args.image.now))) (bytes_of (versionFields 1 c.before.before.before.before.before.before.before.before.before.before.before.before.before.before.before.before.before.args.image.now))
+  both-put c.before.before.before.before.before.before.before.before.before.before.before.before.before.before.before.before.before.args.out.now c.before.before.before.before.before.before.before.before.before.before.before.before.before.before.before.before.before.args.at (written (field 1 (address_in c.before.before.before.before.before.before.before.before.before.before.before.before.before.before.before.before.before.args.image.now))) (bytes_of (version_fields 1 c.before.before.before.before.before.before.before.before.before.before.before.before.before.before.before.before.before.args.image.now))
       (omega (arith, version-length 1 c.before.before.before.before.before.before.before.before.before.before.before.before.before.before.before.before.before.args.image.now (omega arith))) c.before.before.before.before.before.before.bytes.ensures.0 c.before.before.before.before.before.before.bytes.ensures.1 c.before.before.version.ensures.1,
 )
 

@@ -2,7 +2,7 @@
 -- Assumes nothing.
 use native.Mathlib.Omega.{arith}
 use Rattle.catalogue_rules.proofs.Changes.{writing}
-use Rattle.catalogue_row.proofs.Ways.{short, ragged, crowded, listed-twice, wrong-maker, wrong-checksum, wrong-secondary, sound}
+use Rattle.catalogue_row.proofs.Ways.{short, ragged, crowded, listed_twice_lem, wrong_maker, wrong_checksum, wrong_secondary, sound}
 use borrow.Author.Rules.{rules}
 use Rattle.catalogue_row.proofs.import.Statement.{statement}
 use Rattle.catalogue_row.proofs.import.Tie as tie
@@ -29,25 +29,25 @@ any-twice-requires : tie.Need-any-twice-requires
 any-twice-requires c κs = search rules
 
 returns-5 : tie.Need-returns-5
-returns-5 c = listed-twice c.before.before.before.before.before.before.before.before.args.out.now c.before.before.before.before.before.before.before.before.args.archive.now (omega arith) (omega arith) (omega arith) _ c.before.any_twice.ensures c.if5.true
+returns-5 c = listed_twice_lem c.before.before.before.before.before.before.before.before.args.out.now c.before.before.before.before.before.before.before.before.args.archive.now (omega arith) (omega arith) (omega arith) _ c.before.any_twice.ensures c.if5.true
 
 any-for-requires : tie.Need-any-for-requires
 any-for-requires c κs = search rules
 
 returns-6 : tie.Need-returns-6
-returns-6 c = wrong-maker c.before.before.before.before.before.before.before.before.before.before.args.out.now c.before.before.before.before.before.before.before.before.before.before.args.archive.now (omega arith) (omega arith) (omega arith) _ c.before.before.before.any_twice.ensures c.before.before.if5.false _ c.before.any-for.ensures c.if6.true
+returns-6 c = wrong_maker c.before.before.before.before.before.before.before.before.before.before.args.out.now c.before.before.before.before.before.before.before.before.before.before.args.archive.now (omega arith) (omega arith) (omega arith) _ c.before.before.before.any_twice.ensures c.before.before.if5.false _ c.before.any-for.ensures c.if6.true
 
 any-for-requires-2 : tie.Need-any-for-requires-2
 any-for-requires-2 c κs = search rules
 
 returns-7 : tie.Need-returns-7
-returns-7 c = wrong-checksum c.before.before.before.before.before.before.before.before.before.before.before.before.args.out.now c.before.before.before.before.before.before.before.before.before.before.before.before.args.archive.now (omega arith) (omega arith) (omega arith) _ c.before.before.before.before.before.any_twice.ensures c.before.before.before.before.if5.false _ c.before.before.before.any-for.ensures c.before.before.if6.false _ c.before.any-for2.ensures c.if7.true
+returns-7 c = wrong_checksum c.before.before.before.before.before.before.before.before.before.before.before.before.args.out.now c.before.before.before.before.before.before.before.before.before.before.before.before.args.archive.now (omega arith) (omega arith) (omega arith) _ c.before.before.before.before.before.any_twice.ensures c.before.before.before.before.if5.false _ c.before.before.before.any-for.ensures c.before.before.if6.false _ c.before.any-for2.ensures c.if7.true
 
 any-for-requires-3 : tie.Need-any-for-requires-3
 any-for-requires-3 c κs = search rules
 
 returns-8 : tie.Need-returns-8
-returns-8 c = wrong-secondary c.before.before.before.before.before.before.before.before.before.before.before.before.before.before.args.out.now c.before.before.before.before.before.before.before.before.before.before.before.before.before.before.args.archive.now (omega arith) (omega arith) (omega arith) _ c.before.before.before.before.before.before.before.any_twice.ensures c.before.before.before.before.before.before.if5.false _ c.before.before.before.before.before.any-for.ensures c.before.before.before.before.if6.false _ c.before.before.before.any-for2.ensures c.before.before.if7.false _ c.before.any-for3.ensures c.if8.true
+returns-8 c = wrong_secondary c.before.before.before.before.before.before.before.before.before.before.before.before.before.before.args.out.now c.before.before.before.before.before.before.before.before.before.before.before.before.before.before.args.archive.now (omega arith) (omega arith) (omega arith) _ c.before.before.before.before.before.before.before.any_twice.ensures c.before.before.before.before.before.before.if5.false _ c.before.before.before.before.before.any-for.ensures c.before.before.before.before.if6.false _ c.before.before.before.any-for2.ensures c.before.before.if7.false _ c.before.any-for3.ensures c.if8.true
 
 cards-requires : tie.Need-cards-requires
 cards-requires c κs = search rules

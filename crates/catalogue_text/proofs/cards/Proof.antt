@@ -70,7 +70,7 @@ add_at : tie.Need-overflow-add-at invariant-loop decreases-loop
 add_at c = omega (arith, (stands {file = c.before.before.before.before.before.before.before.before.args.file.now} {at = c.before.before.before.before.before.before.loop.at} (sym c.before.before.before.tag.given.1 ∙ c.before.before.before.before.before.field_at.ensures)).fits)
 
 loop-less : tie.Need-loop-smaller invariant-loop decreases-loop
-loop-less c = omega (arith, (stands {file = c.before.before.before.before.before.before.before.before.args.file.now} {at = c.before.before.before.before.before.before.loop.at} (sym c.before.before.before.tag.given.1 ∙ c.before.before.before.before.before.field_at.ensures)).fits, (stands {file = c.before.before.before.before.before.before.before.before.args.file.now} {at = c.before.before.before.before.before.before.loop.at} (sym c.before.before.before.tag.given.1 ∙ c.before.before.before.before.before.field_at.ensures)).behindHead)
+loop-less c = omega (arith, (stands {file = c.before.before.before.before.before.before.before.before.args.file.now} {at = c.before.before.before.before.before.before.loop.at} (sym c.before.before.before.tag.given.1 ∙ c.before.before.before.before.before.field_at.ensures)).fits, (stands {file = c.before.before.before.before.before.before.before.before.args.file.now} {at = c.before.before.before.before.before.before.loop.at} (sym c.before.before.before.tag.given.1 ∙ c.before.before.before.before.before.field_at.ensures)).behind_head)
 
 loop-again : tie.Need-loop-preserved invariant-loop decreases-loop
 loop-again c = tt

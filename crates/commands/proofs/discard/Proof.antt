@@ -2,12 +2,12 @@
 use borrow.Author.Rules.{rules}
 use Rattle.receive_rules.specs.Reading as reading
 use Rattle.card_rules.proofs.Join.{rx-does}
-use Rattle.card_rules.proofs.Sides.{rx-sound-at}
+use Rattle.card_rules.proofs.Sides.{rx_sound_at}
 use Rattle.commands.proofs.discard.Statement.{statement}
 use Rattle.commands.proofs.discard.Tie as tie
 
 discard-requires : tie.Need-discard-requires
-discard-requires c κs = rx-sound-at _ _ _ _ c.rx-size.ensures.0 c.before.before.before.before.before.requires
+discard-requires c κs = rx_sound_at _ _ _ _ c.rx-size.ensures.0 c.before.before.before.before.before.requires
 
 returns : tie.Need-returns
 returns c = rx-does _ _ _ _ _ c.before.before.before.before.before.before.before.before.before.before.requires.held (λ n. reading.discard) _ _ c.before.before.before.before.before.rx-size.ensures.0 c.before.before.before.before.discard.ensures

@@ -1,4 +1,4 @@
--- `driver::is_sound`: both tests are those of `soundState`. Assumes nothing.
+-- `driver::is_sound`: both tests are those of `sound_state`. Assumes nothing.
 use borrow.Author.Rules.{rules}
 use borrow.Author.Rules.{rules}
 use Rattle.driver.proofs.is_sound.Statement.{statement}

@@ -7,22 +7,22 @@ use mathlib.Core.Logic.{⊎_elim}
 use Prim.Native.Nat.{ℕ, ◌+◌, ◌*◌, ◌-◌, ◌≤◌, ◌<◌}
 use native.Mathlib.Omega.{arith}
 use borrow.Author.Rules.{rules}
-use Rattle.image_rules.specs.Image.{span, isAmong, except, configuration, checksumOf, byte_at}
-use Rattle.image_rules.proofs.Words.{apart, among, folded, whole_of, walked, Two, to-own, to-other, byte_of}
+use Rattle.image_rules.specs.Image.{span, is_among, except, configuration, checksum_of, byte_at}
+use Rattle.image_rules.proofs.Words.{apart, among, folded, whole_of, walked, Two, to_own, to_other, byte_of}
 use Rattle.image_check.proofs.checksum.Statement.{statement}
 use Rattle.image_check.proofs.checksum.Tie as tie
 
 -- The low byte is of these words, the high one of the others.
 abbrev own : ℕ → Bool
-own w = isAmong w configuration
+own w = is_among w configuration
 
 abbrev Running : List ℕ → ℕ → ℕ → ℕ → Type 0
 Running image = Two image own 0x0E [] (whole_of image configuration) (whole_of image (except (span 0x00 0x0E) configuration))
 
 -- Behind the last word they fold to the bytes of the checksum.
 summed : (image : List ℕ) → ((place : ℕ) → byte_at image place < 256) → (w low high : ℕ) → 0x0E < w → Running image w low high
-    → folded high * 256 + folded low ≡ checksumOf image
-unfolding checksumOf
+    → folded high * 256 + folded low ≡ checksum_of image
+unfolding checksum_of
 summed image bytes w low high over r =
     ap₂ (λ (x y : ℕ). x * 256 + y) (byte_of image (except (span 0x00 0x0E) configuration) bytes high (walked image _ 0x0E [] _ w high r.1 over))
     (byte_of image configuration bytes low (walked image own 0x0E [] _ w low r.0 over))
@@ -52,8 +52,8 @@ loop-again c =
     let low = c.before.before.before.loop.low in
     let image = c.before.before.before.before.before.args.image.now in
     let within : w ≤ 0x0E = omega (arith, c.before.before.loop-test.true) in
-    let own-word = to-own image own 0x0E [] _ _ w low high _ within c.before.word-at.ensures c.before.before.before.loop.invariant in
-    let other_word = to-other image own 0x0E [] _ _ w low high _ within c.before.word-at.ensures c.before.before.before.loop.invariant in
+    let own-word = to_own image own 0x0E [] _ _ w low high _ within c.before.word-at.ensures c.before.before.before.loop.invariant in
+    let other_word = to_other image own 0x0E [] _ _ w low high _ within c.before.word-at.ensures c.before.before.before.loop.invariant in
     ⊎_elim
     (λ o.
     let not-0D : 0x0D ≡ w → ⊥ = λ e. o.0.rest.1 (sym e) in

@@ -7,14 +7,14 @@ use mathlib.Core.Logic.{⊎_elim}
 use Prim.Native.Nat.{ℕ, ◌+◌, ◌*◌, ◌-◌, ◌≤◌, ◌<◌}
 use native.Mathlib.Omega.{arith}
 use borrow.Author.Rules.{rules}
-use Rattle.image_rules.specs.Image.{byte_at, span, isAmong, vital, configurable, secondaryOf}
-use Rattle.image_rules.proofs.Words.{apart, among, Left, folded, whole_of, taken, walked, Two, to-own, to-other, byte_of}
+use Rattle.image_rules.specs.Image.{byte_at, span, is_among, vital, configurable, secondary_of}
+use Rattle.image_rules.proofs.Words.{apart, among, Left, folded, whole_of, taken, walked, Two, to_own, to_other, byte_of}
 use Rattle.image_check.proofs.secondary.Statement.{statement}
 use Rattle.image_check.proofs.secondary.Tie as tie
 
 -- Of words 10h to 16h these are vital data, the others configurable data.
 abbrev own : ℕ → Bool
-own w = isAmong w (span 0x10 0x12)
+own w = is_among w (span 0x10 0x12)
 
 -- In the second walk every word is vital data.
 abbrev every : ℕ → Bool
@@ -54,8 +54,8 @@ loop-again c =
     let k = c.before.before.before.loop.configurable in
     let image = c.before.before.before.before.before.args.image.now in
     let within : w ≤ 0x16 = omega (arith, c.before.before.loop-test.true) in
-    let own-word = to-own image own 0x16 (span 0x20 0x3F) _ _ w v k _ within c.before.word-at.ensures c.before.before.before.loop.invariant in
-    let other_word = to-other image own 0x16 (span 0x20 0x3F) _ _ w v k _ within c.before.word-at.ensures c.before.before.before.loop.invariant in
+    let own-word = to_own image own 0x16 (span 0x20 0x3F) _ _ w v k _ within c.before.word-at.ensures c.before.before.before.loop.invariant in
+    let other_word = to_other image own 0x16 (span 0x20 0x3F) _ _ w v k _ within c.before.word-at.ensures c.before.before.before.loop.invariant in
     ⊎_elim
     (λ m.
     rw (m.2, m.3) (own-word (among w (span 0x10 0x12) (λ n. omega (arith, m.0.left, m.1.taken, n.0, n.1.0, n.1.1.0)))))
@@ -96,8 +96,8 @@ pair-requires c κs = search rules
 
 -- Behind the last words they fold to the bytes of word 17h.
 summed : (image : List ℕ) → ((place : ℕ) → byte_at image place < 256) → (v k w u : ℕ) → 0x16 < w → Left image (λ (u : ℕ). not (own u)) 0x16 [] (whole_of image configurable) w k
-    → 0x3F < u → Left image every 0x3F [] (whole_of image vital) u v → folded v * 256 + folded k ≡ secondaryOf image
-unfolding secondaryOf
+    → 0x3F < u → Left image every 0x3F [] (whole_of image vital) u v → folded v * 256 + folded k ≡ secondary_of image
+unfolding secondary_of
 summed image bytes v k w u first l second m =
     ap₂ (λ (x y : ℕ). x * 256 + y) (byte_of image vital bytes v (walked image every 0x3F [] _ u v m second))
     (byte_of image configurable bytes k (walked image _ 0x16 [] _ w k l first))

@@ -55,14 +55,14 @@ use Rattle.port_rules.proofs.IdState.TheLaws as T'
 use Rattle.lent_port.specs.declared.roll.Roll.{Roll}
 use Rattle.lent_port.specs.declared.roll.Finding.{Finding}
 use Rattle.port_rules.specs.declared.Listed.{Listed}
-use Rattle.port_rules.specs.Calls.{findsCards}
-use Rattle.lent_port.specs.Steps.{unrolled, rolledWith, findingOf, searchedIn, Lists}
-use Rattle.port_rules.specs.Lent.{lent, foundOver}
+use Rattle.port_rules.specs.Calls.{finds_cards}
+use Rattle.lent_port.specs.Steps.{unrolled, rolled_with, finding_of, searched_in, Lists}
+use Rattle.port_rules.specs.Lent.{lent, found_over}
 use Rattle.lent_port.specs.Roll.{Worded}
 use Rattle.bits.specs.UpTo.{up_to}
-use Rattle.bits.proofs.UpTo.{upTo-none, upTo-length, upTo-turn}
-use Rattle.port_rules.specs.Card.{idFresh}
-use Rattle.lent_port.proofs.Rolled.{Rolled, rolled-none, rolled-next, found-ends}
+use Rattle.bits.proofs.UpTo.{upTo_none, upTo_length, upTo_turn}
+use Rattle.port_rules.specs.Card.{id_fresh}
+use Rattle.lent_port.proofs.Rolled.{Rolled, rolled_none, rolled_next, found-ends}
 use Rattle.lent_port.specs.contracts.roll.Roll as Wk
 use Rattle.lent_port.proofs.roll.Roll.TheLaws as Wk'
 use Rattle.lent_port.specs.contracts.roll.Finding as Vr
@@ -70,26 +70,26 @@ use Rattle.lent_port.proofs.roll.Finding.TheLaws as Vr'
 use Rattle.port_rules.specs.contracts.Listed as Rs
 use Rattle.port_rules.proofs.Listed.TheLaws as Rs'
 use Rattle.lent_port.specs.contracts.roll.begin as begin
-use Rattle.lent_port.proofs.roll.begin.Symbol as begin-def
-use Rattle.lent_port.proofs.roll.begin.Symbol.{name as #lent-port·roll·begin}
-use Rattle.lent_port.proofs.roll.begin.Met as begin-thm
+use Rattle.lent_port.proofs.roll.begin.Symbol as begin_def
+use Rattle.lent_port.proofs.roll.begin.Symbol.{name as #lent_port·roll·begin}
+use Rattle.lent_port.proofs.roll.begin.Met as begin_thm
 use Rattle.lent_port.specs.contracts.roll.at as take
-use Rattle.lent_port.proofs.roll.at.Symbol as take-def
-use Rattle.lent_port.proofs.roll.at.Symbol.{name as #lent-port·roll·at}
-use Rattle.lent_port.proofs.roll.at.Met as take-thm
+use Rattle.lent_port.proofs.roll.at.Symbol as take_def
+use Rattle.lent_port.proofs.roll.at.Symbol.{name as #lent_port·roll·at}
+use Rattle.lent_port.proofs.roll.at.Met as take_thm
 use Rattle.lent_port.specs.contracts.roll.search as perform
-use Rattle.lent_port.proofs.roll.search.Symbol as perform-def
-use Rattle.lent_port.proofs.roll.search.Symbol.{name as #lent-port·roll·search}
-use Rattle.lent_port.proofs.roll.search.Met as perform-thm
+use Rattle.lent_port.proofs.roll.search.Symbol as perform_def
+use Rattle.lent_port.proofs.roll.search.Symbol.{name as #lent_port·roll·search}
+use Rattle.lent_port.proofs.roll.search.Met as perform_thm
 use Rattle.lent_port.specs.contracts.roll.searched as give
-use Rattle.lent_port.proofs.roll.searched.Symbol as give-def
-use Rattle.lent_port.proofs.roll.searched.Symbol.{name as #lent-port·roll·searched}
-use Rattle.lent_port.proofs.roll.searched.Met as give-thm
+use Rattle.lent_port.proofs.roll.searched.Symbol as give_def
+use Rattle.lent_port.proofs.roll.searched.Symbol.{name as #lent_port·roll·searched}
+use Rattle.lent_port.proofs.roll.searched.Met as give_thm
 use Rattle.lent_port.specs.contracts.roll.found_answer as reply
-use Rattle.lent_port.proofs.roll.found_answer.Symbol as reply-def
-use Rattle.lent_port.proofs.roll.found_answer.Symbol.{name as #lent-port·roll·found-answer}
-use Rattle.lent_port.proofs.roll.found_answer.Met as reply-thm
-use Rattle.lent_port.specs.contracts.find.Key.{name as #lent-port·find}
+use Rattle.lent_port.proofs.roll.found_answer.Symbol as reply_def
+use Rattle.lent_port.proofs.roll.found_answer.Symbol.{name as #lent_port·roll·found-answer}
+use Rattle.lent_port.proofs.roll.found_answer.Met as reply_thm
+use Rattle.lent_port.specs.contracts.find.Key.{name as #lent_port·find}
 use Rattle.lent_port.specs.contracts.find as call
 use Rattle.lent_port.proofs.find.Statement as stated
 use Rattle.lent_port.proofs.find.Code as code
@@ -100,7 +100,7 @@ stayed = (stay_slice (0 ∷ []) tt (plain (λ _. T.the_row)), (stay_none (λ _. 
 
 -- what is looked for past the end
 abbrev d : IdState
-d = idFresh []
+d = id_fresh []
 
 abbrev vals : IdState → List Val
 vals = LL.vals T.the_type T'.the_laws
@@ -129,20 +129,20 @@ module _ {M : Type 1} {𝓤 : Ura M} (𝓛 : Logic 𝓤) (mem : Memory → SProp
   abbrev Take : Contract 𝓤
   Take = triple_of 𝓛 take.signature (take.spec 𝓛 mem run)
 
-  take-says : (w : Roll) (h : IdState) (r : Roll) → ent 𝓤 (ensured 𝓛 take.ended (take.clauses 𝓛 mem run) tt (w, (h, tt)) tt r) (fact 𝓤 ((r ≡ rolledWith w h) × Worded h))
-  take-says w h r = ex_e 𝓤 _ (λ ws. snd∗ 𝓤 (sem 𝓛 (lasts take.ended tt (w, (h, tt)) ws)) (fact 𝓤 ((r ≡ rolledWith w h) × Worded h)))
+  take-says : (w : Roll) (h : IdState) (r : Roll) → ent 𝓤 (ensured 𝓛 take.ended (take.clauses 𝓛 mem run) tt (w, (h, tt)) tt r) (fact 𝓤 ((r ≡ rolled_with w h) × Worded h))
+  take-says w h r = ex_e 𝓤 _ (λ ws. snd∗ 𝓤 (sem 𝓛 (lasts take.ended tt (w, (h, tt)) ws)) (fact 𝓤 ((r ≡ rolled_with w h) × Worded h)))
 
   abbrev Perform : Contract 𝓤
   Perform = triple_of 𝓛 perform.signature (perform.spec 𝓛 mem run)
 
-  perform-says : (w : Roll) (r : Finding) → ent 𝓤 (ensured 𝓛 perform.ended (perform.clauses 𝓛 mem run) tt (w, tt) tt r) (fact 𝓤 (r ≡ findingOf w))
-  perform-says w r = ex_e 𝓤 _ (λ ws. snd∗ 𝓤 (sem 𝓛 (lasts perform.ended tt (w, tt) ws)) (fact 𝓤 (r ≡ findingOf w)))
+  perform-says : (w : Roll) (r : Finding) → ent 𝓤 (ensured 𝓛 perform.ended (perform.clauses 𝓛 mem run) tt (w, tt) tt r) (fact 𝓤 (r ≡ finding_of w))
+  perform-says w r = ex_e 𝓤 _ (λ ws. snd∗ 𝓤 (sem 𝓛 (lasts perform.ended tt (w, tt) ws)) (fact 𝓤 (r ≡ finding_of w)))
 
   abbrev Give : Contract 𝓤
   Give = triple_of 𝓛 give.signature (give.spec 𝓛 mem run)
 
-  give-says : (v : Finding) (h : IdState) (r : IdState) → ent 𝓤 (ensured 𝓛 give.ended (give.clauses 𝓛 mem run) tt (v, (h, tt)) tt r) (fact 𝓤 (r ≡ searchedIn v h))
-  give-says v h r = ex_e 𝓤 _ (λ ws. snd∗ 𝓤 (sem 𝓛 (lasts give.ended tt (v, (h, tt)) ws)) (fact 𝓤 (r ≡ searchedIn v h)))
+  give-says : (v : Finding) (h : IdState) (r : IdState) → ent 𝓤 (ensured 𝓛 give.ended (give.clauses 𝓛 mem run) tt (v, (h, tt)) tt r) (fact 𝓤 (r ≡ searched_in v h))
+  give-says v h r = ex_e 𝓤 _ (λ ws. snd∗ 𝓤 (sem 𝓛 (lasts give.ended tt (v, (h, tt)) ws)) (fact 𝓤 (r ≡ searched_in v h)))
 
   abbrev Reply : Contract 𝓤
   Reply = triple_of 𝓛 reply.signature (reply.spec 𝓛 mem run)
@@ -151,11 +151,11 @@ module _ {M : Type 1} {𝓤 : Ura M} (𝓛 : Logic 𝓤) (mem : Memory → SProp
   reply-says v r = ex_e 𝓤 _ (λ ws. snd∗ 𝓤 (sem 𝓛 (lasts reply.ended tt (v, tt) ws)) (fact 𝓤 (Lists v r)))
 
   record Known (𝓣 : Tables 𝓤 H) : Type 1 where
-    begin-known : Triple 𝓤 (𝓣.C #lent-port·roll·begin) Begin
-    take-known : Triple 𝓤 (𝓣.C #lent-port·roll·at) Take
-    perform-known : Triple 𝓤 (𝓣.C #lent-port·roll·search) Perform
-    give-known : Triple 𝓤 (𝓣.C #lent-port·roll·searched) Give
-    reply-known : Triple 𝓤 (𝓣.C #lent-port·roll·found-answer) Reply
+    begin-known : Triple 𝓤 (𝓣.C #lent_port·roll·begin) Begin
+    take-known : Triple 𝓤 (𝓣.C #lent_port·roll·at) Take
+    perform-known : Triple 𝓤 (𝓣.C #lent_port·roll·search) Perform
+    give-known : Triple 𝓤 (𝓣.C #lent_port·roll·searched) Give
+    reply-known : Triple 𝓤 (𝓣.C #lent_port·roll·found-answer) Reply
 
 module _ {M : Type 1} {𝓤 : Ura M} (𝓛 : Logic 𝓤) (mem' : Memory → SProp 𝓤) (run : Routine → Fun 𝓤) (κ : Lft) (q : Share) (b o : ℕ) (γ : GName) (ys : List IdState) (port : ℕ) (port-fits : port < 2 ^ 16) where
   open 𝓛 use {H}
@@ -178,7 +178,7 @@ module _ {M : Type 1} {𝓤 : Ura M} (𝓛 : Logic 𝓤) (mem' : Memory → SPro
   abbrev Post : Val → SProp 𝓤
   Post = (walk_of 𝓛 call.ended stayed (call.clauses 𝓛 mem' run)).post (((κ, tt), (q, tt), tt, a, at_entry), tt)
 
-  exits : (zs : List IdState) (r : Listed) (v : Val) → foundOver r zs ≡ findsCards (lent ys) port → length zs ≡ n → Is Rs.the_row r (v ∷ []) → Room T.the_row n → ent 𝓤 (⋆ 𝓛 (‵ (fobs γ ((coded_holeys T.the_row).code (heres T.the_row zs))) ∷ ‵ (fbor κ (Held T.the_row (length zs) b o γ)) ∷ ‵ (flft κ q) ∷ [])) (Post v)
+  exits : (zs : List IdState) (r : Listed) (v : Val) → found_over r zs ≡ finds_cards (lent ys) port → length zs ≡ n → Is Rs.the_row r (v ∷ []) → Room T.the_row n → ent 𝓤 (⋆ 𝓛 (‵ (fobs γ ((coded_holeys T.the_row).code (heres T.the_row zs))) ∷ ‵ (fbor κ (Held T.the_row (length zs) b o γ)) ∷ ‵ (flft κ q) ∷ [])) (Post v)
   exits zs r v e l is room =
       qed 𝓛 (‵ (fobs γ ((coded_holeys T.the_row).code (heres T.the_row zs))) ∷ ‵ (fbor κ (Held T.the_row (length zs) b o γ)) ∷ ‵ (flft κ q) ∷ []) ∵
       suffices ! _ (ends_at 𝓛 call.ended stayed (call.clauses 𝓛 mem' run) (((κ, tt), (q, tt), tt, a, at_entry), tt) v r (zs, (tt, tt)) (l, (tt, tt))) $ says ! e $
@@ -234,9 +234,9 @@ module _ {M : Type 1} {𝓤 : Ura M} (𝓛 : Logic 𝓤) (mem' : Memory → SPro
     En = (Rs'.mir, l₀) ∷ (slice, l₁) ∷ ((ty_int w16), l₂) ∷ (Wk'.mir, l₃) ∷ ((ty_int w64), l₄) ∷ (Vr'.mir, l₅) ∷ ((ty_int w64), l₆) ∷ ((ty_int w64), l₇) ∷ (ty_bool, l₈) ∷ (ty_ptr, l₉) ∷ (T'.mir, l₁₀) ∷ ((ty_int w64), l₁₁) ∷ (ty_bool, l₁₂) ∷ (T'.mir, l₁₃) ∷ (ty_ptr, l₁₄) ∷ (T'.mir, l₁₅) ∷ ((ty_int w64), l₁₆) ∷ (ty_ptr, l₁₇) ∷ []
 
     -- the second loop: v says what is put in each place
-    module _ (i : ℕ) (v-w : Val) (v : Finding) (u : Val) (is-v : Is Vr.the_row v (u ∷ [])) (ends : (j : ℕ) (r : Listed) → n ≤ j → Lists v r → foundOver r (up_to (λ (h : IdState). searchedIn v h) j ys) ≡ findsCards (lent ys) port) where
+    module _ (i : ℕ) (v-w : Val) (v : Finding) (u : Val) (is-v : Is Vr.the_row v (u ∷ [])) (ends : (j : ℕ) (r : Listed) → n ≤ j → Lists v r → found_over r (up_to (λ (h : IdState). searched_in v h) j ys) ≡ finds_cards (lent ys) port) where
       abbrev At₂ : ℕ → List (Item 𝓤)
-      At₂ j = ‵ (row T.the_row full_share (up_to (λ (h : IdState). searchedIn v h) j ys) b o) ∷ ‵ (fobor κ q (Held T.the_row n b o γ)) ∷ ‵ (fobs γ ((coded_holeys T.the_row).code (heres T.the_row ys))) ∷ ‵ (fauth γ ((coded_holeys T.the_row).code (heres T.the_row ys)))
+      At₂ j = ‵ (row T.the_row full_share (up_to (λ (h : IdState). searched_in v h) j ys) b o) ∷ ‵ (fobor κ q (Held T.the_row n b o γ)) ∷ ‵ (fobs γ ((coded_holeys T.the_row).code (heres T.the_row ys))) ∷ ‵ (fauth γ ((coded_holeys T.the_row).code (heres T.the_row ys)))
           ∷ ‵ (froom ty_ptr l₁₇ 0) ∷ ‵ (fdies ty_ptr l₁₇)
           ∷ ‵ (froom (ty_int w64) l₁₆ 0) ∷ ‵ (fdies (ty_int w64) l₁₆)
           ∷ ‵ (froom T'.mir l₁₅ 0) ∷ ‵ (fdies T'.mir l₁₅)
@@ -263,29 +263,29 @@ module _ {M : Type 1} {𝓤 : Ura M} (𝓛 : Logic 𝓤) (mem' : Memory → SPro
       unfolding after_turn
       turn₂ j true e =
           let small : j < n = ltb-true j n e in
-          let within : j < length (up_to (λ (h : IdState). searchedIn v h) j ys) = subst (λ (m : ℕ). j < m) (sym (upTo-length (λ (h : IdState). searchedIn v h) j ys)) small in
+          let within : j < length (up_to (λ (h : IdState). searched_in v h) j ys) = subst (λ (m : ℕ). j < m) (sym (upTo_length (λ (h : IdState). searched_in v h) j ys)) small in
           let fits : j * (mem T.the_row).size < 2 ^ 64 = omega (arith, room.1) in
           let more : j + 1 < 2 ^ 64 = omega (arith, room.0) in
-          let h : IdState = get_or (up_to (λ (h : IdState). searchedIn v h) j ys) j d in
+          let h : IdState = get_or (up_to (λ (h : IdState). searched_in v h) j ys) j d in
           assigns ! (of_opd ! (load ! (from ! (fld ! refl (stop !))) (look_in ! 36 (sub ! 1 refl (whole !))))) (from ! (stop !)) (init ! 16 refl (tt, record { fits = room.0 })) $
           assigns ! (bin ! (load ! (from ! (stop !)) (look ! 26 refl)) (load ! (from ! (stop !)) (look ! 16 refl)) tt) (from ! (stop !)) (init ! 14 refl (tt, tt)) $
           rewrite ! 14 (λ (t : Bool). ‵ (fat full_share ty_bool l₁₂ 0 (vbool t))) e refl $ stays ! (load ! (from ! (stop !)) (look ! 14 refl)) $
           assigns ! (bin ! (load ! (from ! (stop !)) (look ! 26 refl)) (lit ! tt) (record { fits = fits })) (from ! (stop !)) (store ! 16 refl (tt, record { fits = fits })) $
           assigns ! (bin ! (load ! (from ! (fld ! refl (stop !))) (look_in ! 36 (sub ! 0 refl (whole !)))) (load ! (from ! (stop !)) (look ! 16 refl)) tt) (from ! (stop !)) (init ! 10 refl (tt, tt)) $
           rewrite ! 10 (λ (p : ℕ). ‵ (fat full_share ty_ptr l₁₄ 0 (vptr b p))) (sym (place_is (mem T.the_row).size o j)) refl $
-          elem_out ! T.the_row (Is T.the_row) (shows 𝓛 T.the_row) vals (LL.tells T.the_type T'.the_laws) full_share (up_to (λ (h : IdState). searchedIn v h) j ys) j d b o within (λ is.
+          elem_out ! T.the_row (Is T.the_row) (shows 𝓛 T.the_row) vals (LL.tells T.the_type T'.the_laws) full_share (up_to (λ (h : IdState). searched_in v h) j ys) j d b o within (λ is.
           assigns ! (of_opd ! (load ! (from ! (hop ! (look ! 12 refl) (stop !))) (look_raw ! 0 refl))) (from ! (stop !)) (init ! 10 refl ((LL.lawful T.the_type T'.the_laws 𝓛).typed h _ is).0) $
           move ! (1 ∷ []) $ use1 𝓛 (raw ((Give 𝓛 mem' run).pre (to-give v h u))) (goes-give v h u is-v) $
           calls_at ! (fm_of 𝓤 H 𝓛.laws 𝓣) (Give 𝓛 mem' run) known.give-known (to-give v h u) (and_then ! (load ! (from ! (stop !)) (look ! 30 refl)) (and_then ! (load ! (from ! (stop !)) (look ! 10 refl)) (no_more !))) (λ v-g.
           use1 𝓛 (later (some (λ (r : IdState). (‵ ftrue ⊛ ‵ ((T.the_row).own_val r (v-g ∷ []))) ⊛ raw (ensured 𝓛 give.ended (give.clauses 𝓛 mem' run) tt (v, (h, tt)) tt r)))) (id⊢ 𝓤 _) $ await ! tt $ pick ! (λ g.
-          split ! $ move ! (1 ∷ []) $ use1 𝓛 (raw (fact 𝓤 (g ≡ searchedIn v h))) (give-says 𝓛 mem' run v h g) $ heard ! (g ≡ searchedIn v h) (λ e-g. split ! $ drop ! $
+          split ! $ move ! (1 ∷ []) $ use1 𝓛 (raw (fact 𝓤 (g ≡ searched_in v h))) (give-says 𝓛 mem' run v h g) $ heard ! (g ≡ searched_in v h) (λ e-g. split ! $ drop ! $
           peeks ! T.the_row (Is T.the_row) (shows 𝓛 T.the_row) g (v-g ∷ []) (λ is-g. land ! (from ! (stop !)) (init ! 14 refl ((LL.lawful T.the_type T'.the_laws 𝓛).typed g _ is-g).0) $
           assigns ! (bin ! (load ! (from ! (stop !)) (look ! 28 refl)) (lit ! tt) (record { fits = fits })) (from ! (stop !)) (init ! 8 refl (tt, record { fits = fits })) $
           assigns ! (bin ! (load ! (from ! (fld ! refl (stop !))) (look_in ! 38 (sub ! 0 refl (whole !)))) (load ! (from ! (stop !)) (look ! 8 refl)) tt) (from ! (stop !)) (init ! 6 refl (tt, tt)) $
           rewrite ! 6 (λ (p : ℕ). ‵ (fat full_share ty_ptr l₁₇ 0 (vptr b p))) (sym (place_is (mem T.the_row).size o j)) refl $
           assigns ! (of_opd ! (load ! (from ! (stop !)) (look ! 14 refl))) (from ! (hop ! (look ! 6 refl) (stop !))) (store_raw ! 1 refl ((LL.lawful T.the_type T'.the_laws 𝓛).typed g _ is-g).0) $
-          move ! (1 ∷ 0 ∷ []) $ elem_put ! T.the_row full_share (up_to (λ (h : IdState). searchedIn v h) j ys) j g (v-g ∷ []) b o within $
-          rewrite ! 0 (λ (l : List IdState). ‵ (row T.the_row full_share l b o)) (upTo-turn (λ (h : IdState). searchedIn v h) j ys (up_to (λ (h : IdState). searchedIn v h) j ys) d g refl e-g) refl $
+          move ! (1 ∷ 0 ∷ []) $ elem_put ! T.the_row full_share (up_to (λ (h : IdState). searched_in v h) j ys) j g (v-g ∷ []) b o within $
+          rewrite ! 0 (λ (l : List IdState). ‵ (row T.the_row full_share l b o)) (upTo_turn (λ (h : IdState). searched_in v h) j ys (up_to (λ (h : IdState). searched_in v h) j ys) d g refl e-g) refl $
           assigns_last ! (bin ! (load ! (from ! (stop !)) (look ! 26 refl)) (lit ! tt) (record { fits = more })) (from ! (stop !)) (store ! 26 refl (tt, record { fits = more })) $
           forget ! 4 refl $ forget ! 6 refl $ forget ! 8 refl $ forget ! 10 refl $ forget ! 12 refl $ forget ! 14 refl $ forget ! 16 refl $
           again ! Nearer At₂ j (j + 1) (add-one-dec n j small))))))
@@ -293,7 +293,7 @@ module _ {M : Type 1} {𝓤 : Ura M} (𝓛 : Logic 𝓤) (mem' : Memory → SPro
           assigns ! (of_opd ! (load ! (from ! (fld ! refl (stop !))) (look_in ! 36 (sub ! 1 refl (whole !))))) (from ! (stop !)) (init ! 16 refl (tt, record { fits = room.0 })) $
           assigns ! (bin ! (load ! (from ! (stop !)) (look ! 26 refl)) (load ! (from ! (stop !)) (look ! 16 refl)) tt) (from ! (stop !)) (init ! 14 refl (tt, tt)) $
           rewrite ! 14 (λ (t : Bool). ‵ (fat full_share ty_bool l₁₂ 0 (vbool t))) e refl $ leaves_loop ! (load ! (from ! (stop !)) (look ! 14 refl)) $ exec ! 𝓣.C 𝓣.Λ En pieces.t-7 (at_ret En Post) $
-          closes_slice ! tt T.the_row ys (up_to (λ (h : IdState). searchedIn v h) j ys) (upTo-length (λ (h : IdState). searchedIn v h) j ys) b o $
+          closes_slice ! tt T.the_row ys (up_to (λ (h : IdState). searched_in v h) j ys) (upTo_length (λ (h : IdState). searched_in v h) j ys) b o $
           forget ! 13 refl $ forget ! 15 refl $
           owned ! Vr.the_row (Is Vr.the_row) (LL.makes Vr.the_type Vr'.the_plain 𝓛) v _ is-v $ use1 𝓛 (raw ((Reply 𝓛 mem' run).pre (to-reply v u))) (goes-reply v u) $
           calls_at ! (fm_of 𝓤 H 𝓛.laws 𝓣) (Reply 𝓛 mem' run) known.reply-known (to-reply v u) (and_then ! (load ! (from ! (stop !)) (look ! 28 refl)) (no_more !)) (λ v-g.
@@ -302,7 +302,7 @@ module _ {M : Type 1} {𝓤 : Ura M} (𝓛 : Logic 𝓤) (mem' : Memory → SPro
           facts ! Rs.the_row (Is Rs.the_row) (shows 𝓛 Rs.the_row) g (v-g ∷ []) (λ is-g. land ! (from ! (stop !)) (init ! 37 refl ((LL.lawful Rs.the_type Rs'.the_laws 𝓛).typed g _ is-g).0) $
           returns ! (look ! 37 refl) $ forget ! 25 refl $ forget ! 27 refl $ forget ! 29 refl $ forget ! 31 refl $ forget ! 33 refl $ forget ! 35 refl $ forget ! 37 refl $
           move ! (37 ∷ 38 ∷ []) $ free1 ! $ move ! (35 ∷ 36 ∷ []) $ free1 ! $ move ! (33 ∷ 34 ∷ []) $ free1 ! $ move ! (31 ∷ 32 ∷ []) $ free1 ! $ move ! (29 ∷ 30 ∷ []) $ free1 ! $ move ! (27 ∷ 28 ∷ []) $ free1 ! $ move ! (25 ∷ 26 ∷ []) $ free1 ! $ move ! (23 ∷ 24 ∷ []) $ free1 ! $ move ! (21 ∷ 22 ∷ []) $ free1 ! $ move ! (19 ∷ 20 ∷ []) $ free1 ! $ move ! (17 ∷ 18 ∷ []) $ free1 ! $ move ! (15 ∷ 16 ∷ []) $ free1 ! $ move ! (13 ∷ 14 ∷ []) $ free1 ! $ move ! (11 ∷ 12 ∷ []) $ free1 ! $ move ! (9 ∷ 10 ∷ []) $ free1 ! $ move ! (7 ∷ 8 ∷ []) $ free1 ! $ move ! (5 ∷ 6 ∷ []) $ free1 ! $ move ! (3 ∷ 4 ∷ []) $ free1 ! $ free0 ! $
-          by ! (exits (up_to (λ (h : IdState). searchedIn v h) j ys) g v-g (ends j g (ltb-false j n e) e-g) (upTo-length (λ (h : IdState). searchedIn v h) j ys) is-g room)))))
+          by ! (exits (up_to (λ (h : IdState). searched_in v h) j ys) g v-g (ends j g (ltb-false j n e) e-g) (upTo_length (λ (h : IdState). searched_in v h) j ys) is-g room)))))
 
       second : Sq 𝓛 (‵ (row T.the_row full_share ys b o) ∷ ‵ (fobor κ q (Held T.the_row n b o γ)) ∷ ‵ (fobs γ ((coded_holeys T.the_row).code (heres T.the_row ys))) ∷ ‵ (fauth γ ((coded_holeys T.the_row).code (heres T.the_row ys)))
           ∷ ‵ (froom ty_ptr l₁₇ 0) ∷ ‵ (fdies ty_ptr l₁₇)
@@ -325,7 +325,7 @@ module _ {M : Type 1} {𝓤 : Ura M} (𝓛 : Logic 𝓤) (mem' : Memory → SPro
           ∷ ‵ (froom Rs'.mir l₀ 0) ∷ ‵ (fdies Rs'.mir l₀) ∷ []) (runs 𝓣.C 𝓣.Λ En pieces.t-5 (at_ret En Post))
       second =
           assigns ! (of_opd ! (lit ! tt)) (from ! (stop !)) (init ! 26 refl (tt, record { fits = lit< tt })) $
-          rewrite ! 0 (λ (l : List IdState). ‵ (row T.the_row full_share l b o)) (sym (upTo-none (λ (h : IdState). searchedIn v h) ys)) refl $
+          rewrite ! 0 (λ (l : List IdState). ‵ (row T.the_row full_share l b o)) (sym (upTo_none (λ (h : IdState). searched_in v h) ys)) refl $
           first ! $ blocks ! $ loops ! 𝓣 Nearer Nearer-wf At₂ (λ j. turn₂ j (ltb j n) refl) 0
 
     -- the first loop
@@ -371,12 +371,12 @@ module _ {M : Type 1} {𝓤 : Ura M} (𝓛 : Logic 𝓤) (mem' : Memory → SPro
         move ! (1 ∷ []) $ use1 𝓛 (raw ((Take 𝓛 mem' run).pre (to_take t.w h t.v))) (goes-take t.w h t.v t.is) $
         calls_at ! (fm_of 𝓤 H 𝓛.laws 𝓣) (Take 𝓛 mem' run) known.take-known (to_take t.w h t.v) (and_then ! (load ! (from ! (stop !)) (look ! 34 refl)) (and_then ! (load ! (from ! (stop !)) (look ! 20 refl)) (no_more !))) (λ v-g.
         use1 𝓛 (later (some (λ (r : Roll). (‵ ftrue ⊛ ‵ ((Wk.the_row).own_val r (v-g ∷ []))) ⊛ raw (ensured 𝓛 take.ended (take.clauses 𝓛 mem' run) tt (t.w, (h, tt)) tt r)))) (id⊢ 𝓤 _) $ await ! tt $ pick ! (λ g.
-        split ! $ move ! (1 ∷ []) $ use1 𝓛 (raw (fact 𝓤 ((g ≡ rolledWith t.w h) × Worded h))) (take-says 𝓛 mem' run t.w h g) $ heard ! ((g ≡ rolledWith t.w h) × Worded h) (λ e-g. split ! $ drop ! $
+        split ! $ move ! (1 ∷ []) $ use1 𝓛 (raw (fact 𝓤 ((g ≡ rolled_with t.w h) × Worded h))) (take-says 𝓛 mem' run t.w h g) $ heard ! ((g ≡ rolled_with t.w h) × Worded h) (λ e-g. split ! $ drop ! $
         facts ! Wk.the_row (Is Wk.the_row) (shows 𝓛 Wk.the_row) g (v-g ∷ []) (λ is-g. land ! (from ! (stop !)) (store ! 33 refl ((LL.lawful Wk.the_type Wk'.the_laws 𝓛).typed g _ is-g).0) $
         owned ! T.the_row (Is T.the_row) (LL.makes T.the_type T'.the_plain 𝓛) h _ is $ move ! (1 ∷ 0 ∷ []) $ elem_back ! T.the_row full_share ys t.i d (vals h) b o small $
         assigns_last ! (bin ! (load ! (from ! (stop !)) (look ! 30 refl)) (lit ! tt) (record { fits = more })) (from ! (stop !)) (store ! 30 refl (tt, record { fits = more })) $
         forget ! 18 refl $ forget ! 20 refl $ forget ! 22 refl $ forget ! 24 refl $
-        again ! Nearer' At₁ t (record { i = t.i + 1; w = g; v = v-g; is = is-g; inv = rolled-next port ys t.i t.w g d small t.inv e-g }) (add-one-dec n t.i small))))))
+        again ! Nearer' At₁ t (record { i = t.i + 1; w = g; v = v-g; is = is-g; inv = rolled_next port ys t.i t.w g d small t.inv e-g }) (add-one-dec n t.i small))))))
     turn₁ t false e =
         let full : n ≤ t.i = ltb-false t.i n e in
         assigns ! (of_opd ! (load ! (from ! (fld ! refl (stop !))) (look_in ! 36 (sub ! 1 refl (whole !))))) (from ! (stop !)) (init ! 24 refl (tt, record { fits = room.0 })) $
@@ -386,7 +386,7 @@ module _ {M : Type 1} {𝓤 : Ura M} (𝓛 : Logic 𝓤) (mem' : Memory → SPro
         owned ! Wk.the_row (Is Wk.the_row) (LL.makes Wk.the_type Wk'.the_plain 𝓛) t.w _ t.is $ use1 𝓛 (raw ((Perform 𝓛 mem' run).pre (to-perform t.w t.v))) (goes-perform t.w t.v) $
         calls_at ! (fm_of 𝓤 H 𝓛.laws 𝓣) (Perform 𝓛 mem' run) known.perform-known (to-perform t.w t.v) (and_then ! (load ! (from ! (stop !)) (look ! 33 refl)) (no_more !)) (λ v-g.
         use1 𝓛 (later (some (λ (r : Finding). (‵ ftrue ⊛ ‵ ((Vr.the_row).own_val r (v-g ∷ []))) ⊛ raw (ensured 𝓛 perform.ended (perform.clauses 𝓛 mem' run) tt (t.w, tt) tt r)))) (id⊢ 𝓤 _) $ await ! tt $ pick ! (λ g.
-        split ! $ move ! (1 ∷ []) $ use1 𝓛 (raw (fact 𝓤 (g ≡ findingOf t.w))) (perform-says 𝓛 mem' run t.w g) $ heard ! (g ≡ findingOf t.w) (λ e-g. split ! $ drop ! $
+        split ! $ move ! (1 ∷ []) $ use1 𝓛 (raw (fact 𝓤 (g ≡ finding_of t.w))) (perform-says 𝓛 mem' run t.w g) $ heard ! (g ≡ finding_of t.w) (λ e-g. split ! $ drop ! $
         facts ! Vr.the_row (Is Vr.the_row) (shows 𝓛 Vr.the_row) g (v-g ∷ []) (λ is-g. land ! (from ! (stop !)) (init ! 28 refl ((LL.lawful Vr.the_type Vr'.the_laws 𝓛).typed g _ is-g).0) $
         second t.i t.v g v-g is-g (λ j r m e. found-ends port ys t.i j t.w g r t.inv full e-g m e)))))
 
@@ -416,7 +416,7 @@ module _ {M : Type 1} {𝓤 : Ura M} (𝓛 : Logic 𝓤) (mem' : Memory → SPro
         split ! $ move ! (1 ∷ []) $ use1 𝓛 (raw (fact 𝓤 (g ≡ unrolled port))) (begin-says 𝓛 mem' run port g) $ heard ! (g ≡ unrolled port) (λ e-g. split ! $ drop ! $
         facts ! Wk.the_row (Is Wk.the_row) (shows 𝓛 Wk.the_row) g (v-g ∷ []) (λ is-g. land ! (from ! (stop !)) (init ! 32 refl ((LL.lawful Wk.the_type Wk'.the_laws 𝓛).typed g _ is-g).0) $
         assigns ! (of_opd ! (lit ! tt)) (from ! (stop !)) (init ! 30 refl (tt, record { fits = lit< tt })) $
-        first ! $ blocks ! $ loops ! 𝓣 Nearer' Nearer'-wf At₁ (λ t. turn₁ t (ltb t.i n) refl) (record { i = 0; w = g; v = v-g; is = is-g; inv = rolled-none port ys g e-g })))))
+        first ! $ blocks ! $ loops ! 𝓣 Nearer' Nearer'-wf At₁ (λ t. turn₁ t (ltb t.i n) refl) (record { i = 0; w = g; v = v-g; is = is-g; inv = rolled_none port ys g e-g })))))
 
   walk : (𝓣 : Tables 𝓤 H) → Known 𝓛 mem' run 𝓣 → Room T.the_row n → ent 𝓤 (on_entry 𝓛 call.signature (κ, tt) (q, tt) a at_entry) (WpFn 𝓤 H 𝓣.C 𝓣.Λ code.function (s ∷ vint w16 port ∷ []) Post)
   walk 𝓣 known room =
@@ -445,11 +445,11 @@ pub find_spec : {M : Type 1} → stated.statement M
 unfolding code.routine tables_of
 find_spec 𝓤 𝓛 𝓜 𝓡 =
     entered 𝓤 𝓛.H (triple_of 𝓛 call.signature (call.spec 𝓛 𝓜.mem 𝓡.run))
-    (tables 𝓤 𝓛.H 𝓜 𝓡 code.env).C (tables 𝓤 𝓛.H 𝓜 𝓡 code.env).Λ #lent-port·find code.function (code.unfolded 𝓤 𝓛.H 𝓜 𝓡)
+    (tables 𝓤 𝓛.H 𝓜 𝓡 code.env).C (tables 𝓤 𝓛.H 𝓜 𝓡 code.env).Λ #lent_port·find code.function (code.unfolded 𝓤 𝓛.H 𝓜 𝓡)
     (meets 𝓛 𝓜.mem 𝓡.run (tables_of 𝓤 𝓛.H 𝓜 (tables 𝓤 𝓛.H 𝓜 𝓡 code.env)) (record {
-      begin-known = cited 𝓤 𝓛.H (Begin 𝓛 𝓜.mem 𝓡.run) 𝓜 𝓡 code.env #lent-port·roll·begin begin-def.routine code.calls-lent-port::roll::begin (begin-thm.met 𝓤 𝓛 𝓜 𝓡);
-      take-known = cited 𝓤 𝓛.H (Take 𝓛 𝓜.mem 𝓡.run) 𝓜 𝓡 code.env #lent-port·roll·at take-def.routine code.calls-lent-port::roll::at (take-thm.met 𝓤 𝓛 𝓜 𝓡);
-      perform-known = cited 𝓤 𝓛.H (Perform 𝓛 𝓜.mem 𝓡.run) 𝓜 𝓡 code.env #lent-port·roll·search perform-def.routine code.calls-lent-port::roll::search (perform-thm.met 𝓤 𝓛 𝓜 𝓡);
-      give-known = cited 𝓤 𝓛.H (Give 𝓛 𝓜.mem 𝓡.run) 𝓜 𝓡 code.env #lent-port·roll·searched give-def.routine code.calls-lent-port::roll::searched (give-thm.met 𝓤 𝓛 𝓜 𝓡);
-      reply-known = cited 𝓤 𝓛.H (Reply 𝓛 𝓜.mem 𝓡.run) 𝓜 𝓡 code.env #lent-port·roll·found-answer reply-def.routine code.calls-lent-port::roll::found-answer (reply-thm.met 𝓤 𝓛 𝓜 𝓡);
+      begin-known = cited 𝓤 𝓛.H (Begin 𝓛 𝓜.mem 𝓡.run) 𝓜 𝓡 code.env #lent_port·roll·begin begin_def.routine code.calls-lent-port::roll::begin (begin_thm.met 𝓤 𝓛 𝓜 𝓡);
+      take-known = cited 𝓤 𝓛.H (Take 𝓛 𝓜.mem 𝓡.run) 𝓜 𝓡 code.env #lent_port·roll·at take_def.routine code.calls-lent-port::roll::at (take_thm.met 𝓤 𝓛 𝓜 𝓡);
+      perform-known = cited 𝓤 𝓛.H (Perform 𝓛 𝓜.mem 𝓡.run) 𝓜 𝓡 code.env #lent_port·roll·search perform_def.routine code.calls-lent-port::roll::search (perform_thm.met 𝓤 𝓛 𝓜 𝓡);
+      give-known = cited 𝓤 𝓛.H (Give 𝓛 𝓜.mem 𝓡.run) 𝓜 𝓡 code.env #lent_port·roll·searched give_def.routine code.calls-lent-port::roll::searched (give_thm.met 𝓤 𝓛 𝓜 𝓡);
+      reply-known = cited 𝓤 𝓛.H (Reply 𝓛 𝓜.mem 𝓡.run) 𝓜 𝓡 code.env #lent_port·roll·found-answer reply_def.routine code.calls-lent-port::roll::found-answer (reply_thm.met 𝓤 𝓛 𝓜 𝓡);
     }))

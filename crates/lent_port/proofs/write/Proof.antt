@@ -56,12 +56,12 @@ use Rattle.port_rules.proofs.IdState.TheLaws as T'
 use Rattle.lent_port.specs.declared.look.Seen.{Seen}
 use Rattle.lent_port.specs.declared.look.Step.{Step}
 use Rattle.port_rules.specs.declared.Wrote.{Wrote}
-use Rattle.port_rules.specs.Calls.{wroteReply, portWrites}
-use Rattle.lent_port.specs.Steps.{unseen, seenWith, writingOf, written_by, replyOf}
-use Rattle.port_rules.specs.Lent.{lent, wroteOver}
+use Rattle.port_rules.specs.Calls.{wrote_reply, port_writes}
+use Rattle.lent_port.specs.Steps.{unseen, seen_with, writing_of, written_by, reply_of}
+use Rattle.port_rules.specs.Lent.{lent, wrote_over}
 use Rattle.bits.specs.UpTo.{up_to}
-use Rattle.bits.proofs.UpTo.{upTo-none, upTo-length, upTo-turn}
-use Rattle.port_rules.specs.Card.{idFresh}
+use Rattle.bits.proofs.UpTo.{upTo_none, upTo_length, upTo_turn}
+use Rattle.port_rules.specs.Card.{id_fresh}
 use Rattle.lent_port.proofs.Looked.{Looked, looked-none, looked-next, wrote-ends}
 use Rattle.lent_port.specs.contracts.look.Seen as Wk
 use Rattle.lent_port.proofs.look.Seen.TheLaws as Wk'
@@ -70,26 +70,26 @@ use Rattle.lent_port.proofs.look.Step.TheLaws as Vr'
 use Rattle.port_rules.specs.contracts.Wrote as Rs
 use Rattle.port_rules.proofs.Wrote.TheLaws as Rs'
 use Rattle.lent_port.specs.contracts.look.begin as begin
-use Rattle.lent_port.proofs.look.begin.Symbol as begin-def
-use Rattle.lent_port.proofs.look.begin.Symbol.{name as #lent-port·look·begin}
-use Rattle.lent_port.proofs.look.begin.Met as begin-thm
+use Rattle.lent_port.proofs.look.begin.Symbol as begin_def
+use Rattle.lent_port.proofs.look.begin.Symbol.{name as #lent_port·look·begin}
+use Rattle.lent_port.proofs.look.begin.Met as begin_thm
 use Rattle.lent_port.specs.contracts.look.at as take
-use Rattle.lent_port.proofs.look.at.Symbol as take-def
-use Rattle.lent_port.proofs.look.at.Symbol.{name as #lent-port·look·at}
-use Rattle.lent_port.proofs.look.at.Met as take-thm
+use Rattle.lent_port.proofs.look.at.Symbol as take_def
+use Rattle.lent_port.proofs.look.at.Symbol.{name as #lent_port·look·at}
+use Rattle.lent_port.proofs.look.at.Met as take_thm
 use Rattle.lent_port.specs.contracts.look.writing as perform
-use Rattle.lent_port.proofs.look.writing.Symbol as perform-def
-use Rattle.lent_port.proofs.look.writing.Symbol.{name as #lent-port·look·writing}
-use Rattle.lent_port.proofs.look.writing.Met as perform-thm
+use Rattle.lent_port.proofs.look.writing.Symbol as perform_def
+use Rattle.lent_port.proofs.look.writing.Symbol.{name as #lent_port·look·writing}
+use Rattle.lent_port.proofs.look.writing.Met as perform_thm
 use Rattle.lent_port.specs.contracts.look.written as give
-use Rattle.lent_port.proofs.look.written.Symbol as give-def
-use Rattle.lent_port.proofs.look.written.Symbol.{name as the-written-#lent-port·look}
-use Rattle.lent_port.proofs.look.written.Met as give-thm
+use Rattle.lent_port.proofs.look.written.Symbol as give_def
+use Rattle.lent_port.proofs.look.written.Symbol.{name as the-written-#lent_port·look}
+use Rattle.lent_port.proofs.look.written.Met as give_thm
 use Rattle.lent_port.specs.contracts.look.write_answer as reply
-use Rattle.lent_port.proofs.look.write_answer.Symbol as reply-def
-use Rattle.lent_port.proofs.look.write_answer.Symbol.{name as #lent-port·look·write-answer}
-use Rattle.lent_port.proofs.look.write_answer.Met as reply-thm
-use Rattle.lent_port.specs.contracts.write.Key.{name as #lent-port·write}
+use Rattle.lent_port.proofs.look.write_answer.Symbol as reply_def
+use Rattle.lent_port.proofs.look.write_answer.Symbol.{name as #lent_port·look·write-answer}
+use Rattle.lent_port.proofs.look.write_answer.Met as reply_thm
+use Rattle.lent_port.specs.contracts.write.Key.{name as #lent_port·write}
 use Rattle.lent_port.specs.contracts.write as call
 use Rattle.lent_port.proofs.write.Statement as stated
 use Rattle.lent_port.proofs.write.Code as code
@@ -100,7 +100,7 @@ stayed = (stay_slice (0 ∷ []) tt (plain (λ _. T.the_row)), (stay_none (λ _. 
 
 -- what is looked for past the end
 abbrev d : IdState
-d = idFresh []
+d = id_fresh []
 
 abbrev vals : IdState → List Val
 vals = LL.vals T.the_type T'.the_laws
@@ -129,14 +129,14 @@ module _ {M : Type 1} {𝓤 : Ura M} (𝓛 : Logic 𝓤) (mem : Memory → SProp
   abbrev Take : Contract 𝓤
   Take = triple_of 𝓛 take.signature (take.spec 𝓛 mem run)
 
-  take-says : (w : Seen) (h : IdState) (r : Seen) → ent 𝓤 (ensured 𝓛 take.ended (take.clauses 𝓛 mem run) tt (w, (h, tt)) tt r) (fact 𝓤 (r ≡ seenWith w h))
-  take-says w h r = ex_e 𝓤 _ (λ ws. snd∗ 𝓤 (sem 𝓛 (lasts take.ended tt (w, (h, tt)) ws)) (fact 𝓤 (r ≡ seenWith w h)))
+  take-says : (w : Seen) (h : IdState) (r : Seen) → ent 𝓤 (ensured 𝓛 take.ended (take.clauses 𝓛 mem run) tt (w, (h, tt)) tt r) (fact 𝓤 (r ≡ seen_with w h))
+  take-says w h r = ex_e 𝓤 _ (λ ws. snd∗ 𝓤 (sem 𝓛 (lasts take.ended tt (w, (h, tt)) ws)) (fact 𝓤 (r ≡ seen_with w h)))
 
   abbrev Perform : Contract 𝓤
   Perform = triple_of 𝓛 perform.signature (perform.spec 𝓛 mem run)
 
-  perform-says : (w : Seen) (byte : ℕ) (r : Step) → ent 𝓤 (ensured 𝓛 perform.ended (perform.clauses 𝓛 mem run) tt (w, (byte, tt)) tt r) (fact 𝓤 (r ≡ writingOf w byte))
-  perform-says w byte r = ex_e 𝓤 _ (λ ws. snd∗ 𝓤 (sem 𝓛 (lasts perform.ended tt (w, (byte, tt)) ws)) (fact 𝓤 (r ≡ writingOf w byte)))
+  perform-says : (w : Seen) (byte : ℕ) (r : Step) → ent 𝓤 (ensured 𝓛 perform.ended (perform.clauses 𝓛 mem run) tt (w, (byte, tt)) tt r) (fact 𝓤 (r ≡ writing_of w byte))
+  perform-says w byte r = ex_e 𝓤 _ (λ ws. snd∗ 𝓤 (sem 𝓛 (lasts perform.ended tt (w, (byte, tt)) ws)) (fact 𝓤 (r ≡ writing_of w byte)))
 
   abbrev Give : Contract 𝓤
   Give = triple_of 𝓛 give.signature (give.spec 𝓛 mem run)
@@ -147,15 +147,15 @@ module _ {M : Type 1} {𝓤 : Ura M} (𝓛 : Logic 𝓤) (mem : Memory → SProp
   abbrev Reply : Contract 𝓤
   Reply = triple_of 𝓛 reply.signature (reply.spec 𝓛 mem run)
 
-  reply-says : (v : Step) (r : Wrote) → ent 𝓤 (ensured 𝓛 reply.ended (reply.clauses 𝓛 mem run) tt (v, tt) tt r) (fact 𝓤 (wroteReply r ≡ replyOf v []))
-  reply-says v r = ex_e 𝓤 _ (λ ws. snd∗ 𝓤 (sem 𝓛 (lasts reply.ended tt (v, tt) ws)) (fact 𝓤 (wroteReply r ≡ replyOf v [])))
+  reply-says : (v : Step) (r : Wrote) → ent 𝓤 (ensured 𝓛 reply.ended (reply.clauses 𝓛 mem run) tt (v, tt) tt r) (fact 𝓤 (wrote_reply r ≡ reply_of v []))
+  reply-says v r = ex_e 𝓤 _ (λ ws. snd∗ 𝓤 (sem 𝓛 (lasts reply.ended tt (v, tt) ws)) (fact 𝓤 (wrote_reply r ≡ reply_of v [])))
 
   record Known (𝓣 : Tables 𝓤 H) : Type 1 where
-    begin-known : Triple 𝓤 (𝓣.C #lent-port·look·begin) Begin
-    take-known : Triple 𝓤 (𝓣.C #lent-port·look·at) Take
-    perform-known : Triple 𝓤 (𝓣.C #lent-port·look·writing) Perform
-    give-known : Triple 𝓤 (𝓣.C the-written-#lent-port·look) Give
-    reply-known : Triple 𝓤 (𝓣.C #lent-port·look·write-answer) Reply
+    begin-known : Triple 𝓤 (𝓣.C #lent_port·look·begin) Begin
+    take-known : Triple 𝓤 (𝓣.C #lent_port·look·at) Take
+    perform-known : Triple 𝓤 (𝓣.C #lent_port·look·writing) Perform
+    give-known : Triple 𝓤 (𝓣.C the-written-#lent_port·look) Give
+    reply-known : Triple 𝓤 (𝓣.C #lent_port·look·write-answer) Reply
 
 module _ {M : Type 1} {𝓤 : Ura M} (𝓛 : Logic 𝓤) (mem' : Memory → SProp 𝓤) (run : Routine → Fun 𝓤) (κ : Lft) (q : Share) (b o : ℕ) (γ : GName) (ys : List IdState) (port byte : ℕ) (port-fits : port < 2 ^ 16) (byte_fits : byte < 2 ^ 8) where
   open 𝓛 use {H}
@@ -178,7 +178,7 @@ module _ {M : Type 1} {𝓤 : Ura M} (𝓛 : Logic 𝓤) (mem' : Memory → SPro
   abbrev Post : Val → SProp 𝓤
   Post = (walk_of 𝓛 call.ended stayed (call.clauses 𝓛 mem' run)).post (((κ, tt), (q, tt), tt, a, at_entry), tt)
 
-  exits : (zs : List IdState) (r : Wrote) (v : Val) → wroteOver r zs ≡ portWrites (lent ys) port byte → length zs ≡ n → Is Rs.the_row r (v ∷ []) → Room T.the_row n → ent 𝓤 (⋆ 𝓛 (‵ (fobs γ ((coded_holeys T.the_row).code (heres T.the_row zs))) ∷ ‵ (fbor κ (Held T.the_row (length zs) b o γ)) ∷ ‵ (flft κ q) ∷ [])) (Post v)
+  exits : (zs : List IdState) (r : Wrote) (v : Val) → wrote_over r zs ≡ port_writes (lent ys) port byte → length zs ≡ n → Is Rs.the_row r (v ∷ []) → Room T.the_row n → ent 𝓤 (⋆ 𝓛 (‵ (fobs γ ((coded_holeys T.the_row).code (heres T.the_row zs))) ∷ ‵ (fbor κ (Held T.the_row (length zs) b o γ)) ∷ ‵ (flft κ q) ∷ [])) (Post v)
   exits zs r v e l is room =
       qed 𝓛 (‵ (fobs γ ((coded_holeys T.the_row).code (heres T.the_row zs))) ∷ ‵ (fbor κ (Held T.the_row (length zs) b o γ)) ∷ ‵ (flft κ q) ∷ []) ∵
       suffices ! _ (ends_at 𝓛 call.ended stayed (call.clauses 𝓛 mem' run) (((κ, tt), (q, tt), tt, a, at_entry), tt) v r (zs, (tt, (tt, tt))) (l, (tt, (tt, tt)))) $ says ! e $
@@ -234,7 +234,7 @@ module _ {M : Type 1} {𝓤 : Ura M} (𝓛 : Logic 𝓤) (mem' : Memory → SPro
     En = (Rs'.mir, l₀) ∷ (slice, l₁) ∷ ((ty_int w16), l₂) ∷ ((ty_int w8), l₃) ∷ (Wk'.mir, l₄) ∷ ((ty_int w64), l₅) ∷ (Vr'.mir, l₆) ∷ ((ty_int w64), l₇) ∷ ((ty_int w64), l₈) ∷ (ty_bool, l₉) ∷ (ty_ptr, l₁₀) ∷ (T'.mir, l₁₁) ∷ ((ty_int w64), l₁₂) ∷ (ty_bool, l₁₃) ∷ (T'.mir, l₁₄) ∷ (ty_ptr, l₁₅) ∷ (T'.mir, l₁₆) ∷ ((ty_int w64), l₁₇) ∷ (ty_ptr, l₁₈) ∷ []
 
     -- the second loop: v says what is put in each place
-    module _ (i : ℕ) (v-w : Val) (v : Step) (u : Val) (is-v : Is Vr.the_row v (u ∷ [])) (ends : (j : ℕ) (r : Wrote) → n ≤ j → wroteReply r ≡ replyOf v [] → wroteOver r (up_to (λ (h : IdState). written_by v h) j ys) ≡ portWrites (lent ys) port byte) where
+    module _ (i : ℕ) (v-w : Val) (v : Step) (u : Val) (is-v : Is Vr.the_row v (u ∷ [])) (ends : (j : ℕ) (r : Wrote) → n ≤ j → wrote_reply r ≡ reply_of v [] → wrote_over r (up_to (λ (h : IdState). written_by v h) j ys) ≡ port_writes (lent ys) port byte) where
       abbrev At₂ : ℕ → List (Item 𝓤)
       At₂ j = ‵ (row T.the_row full_share (up_to (λ (h : IdState). written_by v h) j ys) b o) ∷ ‵ (fobor κ q (Held T.the_row n b o γ)) ∷ ‵ (fobs γ ((coded_holeys T.the_row).code (heres T.the_row ys))) ∷ ‵ (fauth γ ((coded_holeys T.the_row).code (heres T.the_row ys)))
           ∷ ‵ (froom ty_ptr l₁₈ 0) ∷ ‵ (fdies ty_ptr l₁₈)
@@ -264,7 +264,7 @@ module _ {M : Type 1} {𝓤 : Ura M} (𝓛 : Logic 𝓤) (mem' : Memory → SPro
       unfolding after_turn
       turn₂ j true e =
           let small : j < n = ltb-true j n e in
-          let within : j < length (up_to (λ (h : IdState). written_by v h) j ys) = subst (λ (m : ℕ). j < m) (sym (upTo-length (λ (h : IdState). written_by v h) j ys)) small in
+          let within : j < length (up_to (λ (h : IdState). written_by v h) j ys) = subst (λ (m : ℕ). j < m) (sym (upTo_length (λ (h : IdState). written_by v h) j ys)) small in
           let fits : j * (mem T.the_row).size < 2 ^ 64 = omega (arith, room.1) in
           let more : j + 1 < 2 ^ 64 = omega (arith, room.0) in
           let h : IdState = get_or (up_to (λ (h : IdState). written_by v h) j ys) j d in
@@ -286,7 +286,7 @@ module _ {M : Type 1} {𝓤 : Ura M} (𝓛 : Logic 𝓤) (mem' : Memory → SPro
           rewrite ! 6 (λ (p : ℕ). ‵ (fat full_share ty_ptr l₁₈ 0 (vptr b p))) (sym (place_is (mem T.the_row).size o j)) refl $
           assigns ! (of_opd ! (load ! (from ! (stop !)) (look ! 14 refl))) (from ! (hop ! (look ! 6 refl) (stop !))) (store_raw ! 1 refl ((LL.lawful T.the_type T'.the_laws 𝓛).typed g _ is-g).0) $
           move ! (1 ∷ 0 ∷ []) $ elem_put ! T.the_row full_share (up_to (λ (h : IdState). written_by v h) j ys) j g (v-g ∷ []) b o within $
-          rewrite ! 0 (λ (l : List IdState). ‵ (row T.the_row full_share l b o)) (upTo-turn (λ (h : IdState). written_by v h) j ys (up_to (λ (h : IdState). written_by v h) j ys) d g refl e-g) refl $
+          rewrite ! 0 (λ (l : List IdState). ‵ (row T.the_row full_share l b o)) (upTo_turn (λ (h : IdState). written_by v h) j ys (up_to (λ (h : IdState). written_by v h) j ys) d g refl e-g) refl $
           assigns_last ! (bin ! (load ! (from ! (stop !)) (look ! 26 refl)) (lit ! tt) (record { fits = more })) (from ! (stop !)) (store ! 26 refl (tt, record { fits = more })) $
           forget ! 4 refl $ forget ! 6 refl $ forget ! 8 refl $ forget ! 10 refl $ forget ! 12 refl $ forget ! 14 refl $ forget ! 16 refl $
           again ! Nearer At₂ j (j + 1) (add-one-dec n j small))))))
@@ -294,16 +294,16 @@ module _ {M : Type 1} {𝓤 : Ura M} (𝓛 : Logic 𝓤) (mem' : Memory → SPro
           assigns ! (of_opd ! (load ! (from ! (fld ! refl (stop !))) (look_in ! 38 (sub ! 1 refl (whole !))))) (from ! (stop !)) (init ! 16 refl (tt, record { fits = room.0 })) $
           assigns ! (bin ! (load ! (from ! (stop !)) (look ! 26 refl)) (load ! (from ! (stop !)) (look ! 16 refl)) tt) (from ! (stop !)) (init ! 14 refl (tt, tt)) $
           rewrite ! 14 (λ (t : Bool). ‵ (fat full_share ty_bool l₁₃ 0 (vbool t))) e refl $ leaves_loop ! (load ! (from ! (stop !)) (look ! 14 refl)) $ exec ! 𝓣.C 𝓣.Λ En pieces.t-7 (at_ret En Post) $
-          closes_slice ! tt T.the_row ys (up_to (λ (h : IdState). written_by v h) j ys) (upTo-length (λ (h : IdState). written_by v h) j ys) b o $
+          closes_slice ! tt T.the_row ys (up_to (λ (h : IdState). written_by v h) j ys) (upTo_length (λ (h : IdState). written_by v h) j ys) b o $
           forget ! 13 refl $ forget ! 15 refl $
           owned ! Vr.the_row (Is Vr.the_row) (LL.makes Vr.the_type Vr'.the_plain 𝓛) v _ is-v $ use1 𝓛 (raw ((Reply 𝓛 mem' run).pre (to-reply v u))) (goes-reply v u) $
           calls_at ! (fm_of 𝓤 H 𝓛.laws 𝓣) (Reply 𝓛 mem' run) known.reply-known (to-reply v u) (and_then ! (load ! (from ! (stop !)) (look ! 28 refl)) (no_more !)) (λ v-g.
           use1 𝓛 (later (some (λ (r : Wrote). (‵ ftrue ⊛ ‵ ((Rs.the_row).own_val r (v-g ∷ []))) ⊛ raw (ensured 𝓛 reply.ended (reply.clauses 𝓛 mem' run) tt (v, tt) tt r)))) (id⊢ 𝓤 _) $ await ! tt $ pick ! (λ g.
-          split ! $ move ! (1 ∷ []) $ use1 𝓛 (raw (fact 𝓤 (wroteReply g ≡ replyOf v []))) (reply-says 𝓛 mem' run v g) $ heard ! (wroteReply g ≡ replyOf v []) (λ e-g. split ! $ drop ! $
+          split ! $ move ! (1 ∷ []) $ use1 𝓛 (raw (fact 𝓤 (wrote_reply g ≡ reply_of v []))) (reply-says 𝓛 mem' run v g) $ heard ! (wrote_reply g ≡ reply_of v []) (λ e-g. split ! $ drop ! $
           facts ! Rs.the_row (Is Rs.the_row) (shows 𝓛 Rs.the_row) g (v-g ∷ []) (λ is-g. land ! (from ! (stop !)) (init ! 39 refl ((EL.lawful Rs.the_type Rs'.the_laws 𝓛 tt).typed g _ is-g).0) $
           returns ! (look ! 39 refl) $ forget ! 25 refl $ forget ! 27 refl $ forget ! 29 refl $ forget ! 31 refl $ forget ! 33 refl $ forget ! 35 refl $ forget ! 37 refl $ forget ! 39 refl $
           move ! (39 ∷ 40 ∷ []) $ free1 ! $ move ! (37 ∷ 38 ∷ []) $ free1 ! $ move ! (35 ∷ 36 ∷ []) $ free1 ! $ move ! (33 ∷ 34 ∷ []) $ free1 ! $ move ! (31 ∷ 32 ∷ []) $ free1 ! $ move ! (29 ∷ 30 ∷ []) $ free1 ! $ move ! (27 ∷ 28 ∷ []) $ free1 ! $ move ! (25 ∷ 26 ∷ []) $ free1 ! $ move ! (23 ∷ 24 ∷ []) $ free1 ! $ move ! (21 ∷ 22 ∷ []) $ free1 ! $ move ! (19 ∷ 20 ∷ []) $ free1 ! $ move ! (17 ∷ 18 ∷ []) $ free1 ! $ move ! (15 ∷ 16 ∷ []) $ free1 ! $ move ! (13 ∷ 14 ∷ []) $ free1 ! $ move ! (11 ∷ 12 ∷ []) $ free1 ! $ move ! (9 ∷ 10 ∷ []) $ free1 ! $ move ! (7 ∷ 8 ∷ []) $ free1 ! $ move ! (5 ∷ 6 ∷ []) $ free1 ! $ move ! (3 ∷ 4 ∷ []) $ free1 ! $ free0 ! $
-          by ! (exits (up_to (λ (h : IdState). written_by v h) j ys) g v-g (ends j g (ltb-false j n e) e-g) (upTo-length (λ (h : IdState). written_by v h) j ys) is-g room)))))
+          by ! (exits (up_to (λ (h : IdState). written_by v h) j ys) g v-g (ends j g (ltb-false j n e) e-g) (upTo_length (λ (h : IdState). written_by v h) j ys) is-g room)))))
 
       second : Sq 𝓛 (‵ (row T.the_row full_share ys b o) ∷ ‵ (fobor κ q (Held T.the_row n b o γ)) ∷ ‵ (fobs γ ((coded_holeys T.the_row).code (heres T.the_row ys))) ∷ ‵ (fauth γ ((coded_holeys T.the_row).code (heres T.the_row ys)))
           ∷ ‵ (froom ty_ptr l₁₈ 0) ∷ ‵ (fdies ty_ptr l₁₈)
@@ -327,7 +327,7 @@ module _ {M : Type 1} {𝓤 : Ura M} (𝓛 : Logic 𝓤) (mem' : Memory → SPro
           ∷ ‵ (froom Rs'.mir l₀ 0) ∷ ‵ (fdies Rs'.mir l₀) ∷ []) (runs 𝓣.C 𝓣.Λ En pieces.t-5 (at_ret En Post))
       second =
           assigns ! (of_opd ! (lit ! tt)) (from ! (stop !)) (init ! 26 refl (tt, record { fits = lit< tt })) $
-          rewrite ! 0 (λ (l : List IdState). ‵ (row T.the_row full_share l b o)) (sym (upTo-none (λ (h : IdState). written_by v h) ys)) refl $
+          rewrite ! 0 (λ (l : List IdState). ‵ (row T.the_row full_share l b o)) (sym (upTo_none (λ (h : IdState). written_by v h) ys)) refl $
           first ! $ blocks ! $ loops ! 𝓣 Nearer Nearer-wf At₂ (λ j. turn₂ j (ltb j n) refl) 0
 
     -- the first loop
@@ -374,7 +374,7 @@ module _ {M : Type 1} {𝓤 : Ura M} (𝓛 : Logic 𝓤) (mem' : Memory → SPro
         move ! (1 ∷ []) $ use1 𝓛 (raw ((Take 𝓛 mem' run).pre (to_take t.w h t.v))) (goes-take t.w h t.v t.is) $
         calls_at ! (fm_of 𝓤 H 𝓛.laws 𝓣) (Take 𝓛 mem' run) known.take-known (to_take t.w h t.v) (and_then ! (load ! (from ! (stop !)) (look ! 34 refl)) (and_then ! (load ! (from ! (stop !)) (look ! 20 refl)) (no_more !))) (λ v-g.
         use1 𝓛 (later (some (λ (r : Seen). (‵ ftrue ⊛ ‵ ((Wk.the_row).own_val r (v-g ∷ []))) ⊛ raw (ensured 𝓛 take.ended (take.clauses 𝓛 mem' run) tt (t.w, (h, tt)) tt r)))) (id⊢ 𝓤 _) $ await ! tt $ pick ! (λ g.
-        split ! $ move ! (1 ∷ []) $ use1 𝓛 (raw (fact 𝓤 (g ≡ seenWith t.w h))) (take-says 𝓛 mem' run t.w h g) $ heard ! (g ≡ seenWith t.w h) (λ e-g. split ! $ drop ! $
+        split ! $ move ! (1 ∷ []) $ use1 𝓛 (raw (fact 𝓤 (g ≡ seen_with t.w h))) (take-says 𝓛 mem' run t.w h g) $ heard ! (g ≡ seen_with t.w h) (λ e-g. split ! $ drop ! $
         facts ! Wk.the_row (Is Wk.the_row) (shows 𝓛 Wk.the_row) g (v-g ∷ []) (λ is-g. land ! (from ! (stop !)) (store ! 33 refl ((LL.lawful Wk.the_type Wk'.the_laws 𝓛).typed g _ is-g).0) $
         owned ! T.the_row (Is T.the_row) (LL.makes T.the_type T'.the_plain 𝓛) h _ is $ move ! (1 ∷ 0 ∷ []) $ elem_back ! T.the_row full_share ys t.i d (vals h) b o small $
         assigns_last ! (bin ! (load ! (from ! (stop !)) (look ! 30 refl)) (lit ! tt) (record { fits = more })) (from ! (stop !)) (store ! 30 refl (tt, record { fits = more })) $
@@ -389,7 +389,7 @@ module _ {M : Type 1} {𝓤 : Ura M} (𝓛 : Logic 𝓤) (mem' : Memory → SPro
         owned ! Wk.the_row (Is Wk.the_row) (LL.makes Wk.the_type Wk'.the_plain 𝓛) t.w _ t.is $ use1 𝓛 (raw ((Perform 𝓛 mem' run).pre (to-perform t.w byte t.v))) (goes-perform t.w t.v) $
         calls_at ! (fm_of 𝓤 H 𝓛.laws 𝓣) (Perform 𝓛 mem' run) known.perform-known (to-perform t.w byte t.v) (and_then ! (load ! (from ! (stop !)) (look ! 33 refl)) (and_then ! (load ! (from ! (stop !)) (look ! 35 refl)) (no_more !))) (λ v-g.
         use1 𝓛 (later (some (λ (r : Step). (‵ ftrue ⊛ ‵ ((Vr.the_row).own_val r (v-g ∷ []))) ⊛ raw (ensured 𝓛 perform.ended (perform.clauses 𝓛 mem' run) tt (t.w, (byte, tt)) tt r)))) (id⊢ 𝓤 _) $ await ! tt $ pick ! (λ g.
-        split ! $ move ! (1 ∷ []) $ use1 𝓛 (raw (fact 𝓤 (g ≡ writingOf t.w byte))) (perform-says 𝓛 mem' run t.w byte g) $ heard ! (g ≡ writingOf t.w byte) (λ e-g. split ! $ drop ! $
+        split ! $ move ! (1 ∷ []) $ use1 𝓛 (raw (fact 𝓤 (g ≡ writing_of t.w byte))) (perform-says 𝓛 mem' run t.w byte g) $ heard ! (g ≡ writing_of t.w byte) (λ e-g. split ! $ drop ! $
         facts ! Vr.the_row (Is Vr.the_row) (shows 𝓛 Vr.the_row) g (v-g ∷ []) (λ is-g. land ! (from ! (stop !)) (init ! 28 refl ((LL.lawful Vr.the_type Vr'.the_laws 𝓛).typed g _ is-g).0) $
         second t.i t.v g v-g is-g (λ j r m e. wrote-ends port byte ys t.i j t.w g r t.inv full e-g m e)))))
 
@@ -449,11 +449,11 @@ pub write_spec : {M : Type 1} → stated.statement M
 unfolding code.routine tables_of
 write_spec 𝓤 𝓛 𝓜 𝓡 =
     entered 𝓤 𝓛.H (triple_of 𝓛 call.signature (call.spec 𝓛 𝓜.mem 𝓡.run))
-    (tables 𝓤 𝓛.H 𝓜 𝓡 code.env).C (tables 𝓤 𝓛.H 𝓜 𝓡 code.env).Λ #lent-port·write code.function (code.unfolded 𝓤 𝓛.H 𝓜 𝓡)
+    (tables 𝓤 𝓛.H 𝓜 𝓡 code.env).C (tables 𝓤 𝓛.H 𝓜 𝓡 code.env).Λ #lent_port·write code.function (code.unfolded 𝓤 𝓛.H 𝓜 𝓡)
     (meets 𝓛 𝓜.mem 𝓡.run (tables_of 𝓤 𝓛.H 𝓜 (tables 𝓤 𝓛.H 𝓜 𝓡 code.env)) (record {
-      begin-known = cited 𝓤 𝓛.H (Begin 𝓛 𝓜.mem 𝓡.run) 𝓜 𝓡 code.env #lent-port·look·begin begin-def.routine code.calls-lent-port::look::begin (begin-thm.met 𝓤 𝓛 𝓜 𝓡);
-      take-known = cited 𝓤 𝓛.H (Take 𝓛 𝓜.mem 𝓡.run) 𝓜 𝓡 code.env #lent-port·look·at take-def.routine code.calls-lent-port::look::at (take-thm.met 𝓤 𝓛 𝓜 𝓡);
-      perform-known = cited 𝓤 𝓛.H (Perform 𝓛 𝓜.mem 𝓡.run) 𝓜 𝓡 code.env #lent-port·look·writing perform-def.routine code.calls-lent-port::look::writing (perform-thm.met 𝓤 𝓛 𝓜 𝓡);
-      give-known = cited 𝓤 𝓛.H (Give 𝓛 𝓜.mem 𝓡.run) 𝓜 𝓡 code.env the-written-#lent-port·look give-def.routine code.calls-lent-port::look::written (give-thm.met 𝓤 𝓛 𝓜 𝓡);
-      reply-known = cited 𝓤 𝓛.H (Reply 𝓛 𝓜.mem 𝓡.run) 𝓜 𝓡 code.env #lent-port·look·write-answer reply-def.routine code.calls-lent-port::look::write-answer (reply-thm.met 𝓤 𝓛 𝓜 𝓡);
+      begin-known = cited 𝓤 𝓛.H (Begin 𝓛 𝓜.mem 𝓡.run) 𝓜 𝓡 code.env #lent_port·look·begin begin_def.routine code.calls-lent-port::look::begin (begin_thm.met 𝓤 𝓛 𝓜 𝓡);
+      take-known = cited 𝓤 𝓛.H (Take 𝓛 𝓜.mem 𝓡.run) 𝓜 𝓡 code.env #lent_port·look·at take_def.routine code.calls-lent-port::look::at (take_thm.met 𝓤 𝓛 𝓜 𝓡);
+      perform-known = cited 𝓤 𝓛.H (Perform 𝓛 𝓜.mem 𝓡.run) 𝓜 𝓡 code.env #lent_port·look·writing perform_def.routine code.calls-lent-port::look::writing (perform_thm.met 𝓤 𝓛 𝓜 𝓡);
+      give-known = cited 𝓤 𝓛.H (Give 𝓛 𝓜.mem 𝓡.run) 𝓜 𝓡 code.env the-written-#lent_port·look give_def.routine code.calls-lent-port::look::written (give_thm.met 𝓤 𝓛 𝓜 𝓡);
+      reply-known = cited 𝓤 𝓛.H (Reply 𝓛 𝓜.mem 𝓡.run) 𝓜 𝓡 code.env #lent_port·look·write-answer reply_def.routine code.calls-lent-port::look::write-answer (reply_thm.met 𝓤 𝓛 𝓜 𝓡);
     }))

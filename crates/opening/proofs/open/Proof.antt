@@ -1,5 +1,5 @@
--- `opening::open`: its three parts are the accesses of `openTalk`, in order. Assumes nothing.
-use Rattle.driver_rules.proofs.Runs.{ram-kept, dir-kept}
+-- `opening::open`: its three parts are the accesses of `open_talk`, in order. Assumes nothing.
+use Rattle.driver_rules.proofs.Runs.{ram_kept, dir_kept}
 use Rattle.driver_rules.proofs.OpenWays as ways
 use Rattle.opening.proofs.open.Statement.{statement}
 use Rattle.opening.proofs.open.Tie as tie
@@ -14,10 +14,10 @@ enable-requires : tie.Need-enable-requires
 enable-requires c κs = c.before.before.before.before.before.before.write-masks.ensures.sound
 
 same_length : tie.Need-same-length
-same_length c = ram-kept c.before.before.before.before.enable.ensures.sound c.before.before.before.before.before.before.before.before.before.before.before.before.before.before.before.before.before.before.before.before.before.before.before.requires
+same_length c = ram_kept c.before.before.before.before.enable.ensures.sound c.before.before.before.before.before.before.before.before.before.before.before.before.before.before.before.before.before.before.before.before.before.before.before.requires
 
 same-length-2 : tie.Need-same-length-2
-same-length-2 c = dir-kept c.before.before.before.before.enable.ensures.sound c.before.before.before.before.before.before.before.before.before.before.before.before.before.before.before.before.before.before.before.before.before.before.before.requires
+same-length-2 c = dir_kept c.before.before.before.before.enable.ensures.sound c.before.before.before.before.before.before.before.before.before.before.before.before.before.before.before.before.before.before.before.before.before.before.before.requires
 
 returns : tie.Need-returns
 returns c = let A = c.before.before.before.before.before.before.before.before.before.before.before.before.before.before.before.before.before.before.before.before.before.before.before.args in ways.opens A.d A.w0 A.w1 A.w2 _ _ _ _ c.before.before.before.before.before.before.before.before.before.before.before.before.before.before.before.before.before.before.write-address.ensures c.before.before.before.before.before.before.before.before.before.before.before.write-masks.ensures c.before.before.before.before.enable.ensures

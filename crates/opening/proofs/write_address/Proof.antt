@@ -1,7 +1,7 @@
 -- `opening::write_address`: window 2 and three words, one after the other. Assumes nothing.
 use mathlib.Core.Path.{refl}
 use native.Mathlib.Omega.{arith}
-use Rattle.driver_rules.proofs.Runs.{ram-kept, dir-kept}
+use Rattle.driver_rules.proofs.Runs.{ram_kept, dir_kept}
 use Rattle.driver_rules.proofs.OpenWays as ways
 use borrow.Author.Rules.{rules}
 use Rattle.opening.proofs.write_address.Statement.{statement}
@@ -23,10 +23,10 @@ write-pair-requires-3 : tie.Need-write-pair-requires-3
 write-pair-requires-3 c κs = (c.before.before.before.before.before.before.write-pair2.ensures.sound, omega arith)
 
 same_length : tie.Need-same-length
-same_length c = ram-kept c.before.before.before.before.write-pair3.ensures.sound c.before.before.before.before.before.before.before.before.before.before.before.before.before.before.before.before.before.before.before.before.before.before.before.before.before.before.before.before.before.before.requires
+same_length c = ram_kept c.before.before.before.before.write-pair3.ensures.sound c.before.before.before.before.before.before.before.before.before.before.before.before.before.before.before.before.before.before.before.before.before.before.before.before.before.before.before.before.before.before.requires
 
 same-length-2 : tie.Need-same-length-2
-same-length-2 c = dir-kept c.before.before.before.before.write-pair3.ensures.sound c.before.before.before.before.before.before.before.before.before.before.before.before.before.before.before.before.before.before.before.before.before.before.before.before.before.before.before.before.before.before.requires
+same-length-2 c = dir_kept c.before.before.before.before.write-pair3.ensures.sound c.before.before.before.before.before.before.before.before.before.before.before.before.before.before.before.before.before.before.before.before.before.before.before.before.before.before.before.before.before.before.requires
 
 returns : tie.Need-returns
 returns c = ways.address c.before.before.before.before.before.before.before.before.before.before.before.before.before.before.before.before.before.before.before.before.before.before.before.before.before.before.before.before.before.before.args.w0 c.before.before.before.before.before.before.before.before.before.before.before.before.before.before.before.before.before.before.before.before.before.before.before.before.before.before.before.before.before.before.args.w1 c.before.before.before.before.before.before.before.before.before.before.before.before.before.before.before.before.before.before.before.before.before.before.before.before.before.before.before.before.before.before.args.w2 _ c.before.before.before.before.before.before.before.before.before.before.before.before.before.before.before.before.before.before.before.before.before.before.before.before.before.write_word.ensures c.before.before.before.before.before.before.before.before.before.before.before.before.before.before.before.before.before.before.write-pair.ensures c.before.before.before.before.before.before.before.before.before.before.before.write-pair2.ensures c.before.before.before.before.write-pair3.ensures

@@ -1,5 +1,5 @@
 -- `opening::write_pair`: two accesses, one after the other. Assumes nothing.
-use Rattle.driver_rules.proofs.Runs.{ram-kept, dir-kept}
+use Rattle.driver_rules.proofs.Runs.{ram_kept, dir_kept}
 use Rattle.driver_rules.proofs.OpenWays as ways
 use borrow.Author.Rules.{rules}
 use Rattle.opening.proofs.write_pair.Statement.{statement}
@@ -21,10 +21,10 @@ write-byte-requires-2 : tie.Need-write-byte-requires-2
 write-byte-requires-2 c κs = c.before.before.before.before.before.before.write_byte.ensures.sound
 
 same_length : tie.Need-same-length
-same_length c = ram-kept c.before.before.before.before.write-byte2.ensures.sound c.before.before.before.before.before.before.before.before.before.before.before.before.before.before.before.before.requires.0
+same_length c = ram_kept c.before.before.before.before.write-byte2.ensures.sound c.before.before.before.before.before.before.before.before.before.before.before.before.before.before.before.before.requires.0
 
 same-length-2 : tie.Need-same-length-2
-same-length-2 c = dir-kept c.before.before.before.before.write-byte2.ensures.sound c.before.before.before.before.before.before.before.before.before.before.before.before.before.before.before.before.requires.0
+same-length-2 c = dir_kept c.before.before.before.before.write-byte2.ensures.sound c.before.before.before.before.before.before.before.before.before.before.before.before.before.before.before.before.requires.0
 
 returns : tie.Need-returns
 returns c = ways.two _ _ _ c.before.before.before.before.before.before.before.before.before.before.before.write_byte.ensures c.before.before.before.before.write-byte2.ensures

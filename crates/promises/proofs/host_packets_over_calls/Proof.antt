@@ -1,10 +1,10 @@
--- `promises::host_packets_over_calls` meets its contract, by the law `host-packets-over-calls`. Assumes nothing.
-use Rattle.over_calls.proofs.Host.{host-packets-over-calls}
+-- `promises::host_packets_over_calls` meets its contract, by the law `host_packets_over_calls_lem`. Assumes nothing.
+use Rattle.over_calls.proofs.Host.{host_packets_over_calls_lem}
 use Rattle.promises.proofs.host_packets_over_calls.Statement.{statement}
 use Rattle.promises.proofs.host_packets_over_calls.Tie as tie
 
 returns : tie.Need-returns
-returns c = host-packets-over-calls
+returns c = host_packets_over_calls_lem
 
 pub host-packets-over-calls-spec : {M : Type 1} → statement M
 host-packets-over-calls-spec = tie.close (tie.spec returns)

@@ -3,23 +3,23 @@ use mathlib.Core.Path.{◌≡◌, sym}
 use Prim.Native.Nat.{ℕ, ◌≤◌, ◌<◌, ◌+◌, ◌*◌, ◌-◌}
 use native.Mathlib.Omega.{arith}
 use borrow.Author.Rules.{rules}
-use Rattle.store.specs.Store.{roomOf, part}
+use Rattle.store.specs.Store.{room_of, part}
 use Rattle.transmit_rules.specs.Queue.{free}
-use Rattle.transmit_rules.specs.QueueView.{queueOf}
+use Rattle.transmit_rules.specs.QueueView.{queue_of}
 use Rattle.transmit_rules.proofs.Facts.{shares, words_of}
-use Rattle.transmit_rules.proofs.Put.{put-stays, put_full, put-more, turns_same, turns-fails, seconds}
+use Rattle.transmit_rules.proofs.Put.{put-stays, put_full, put_more, turns_same, turns-fails, seconds}
 use Rattle.queue.proofs.put_word.Statement.{statement}
 use Rattle.queue.proofs.put_word.Tie as tie
 
 -- what is taken and TX Free are the whole
-whole : (c : tie.Start) → roomOf (part 768 c.args.f.packets c.args.dir.now) + 4 * c.args.f.packets + 2 * c.args.f.words + c.args.f.free ≡ c.args.size
+whole : (c : tie.Start) → room_of (part 768 c.args.f.packets c.args.dir.now) + 4 * c.args.f.packets + 2 * c.args.f.words + c.args.f.free ≡ c.args.size
 whole c = let s = c.args in shares s.size s.f s.ram.now s.dir.now c.requires
 
 -- there is room for a word, and there is none
-left : (c : tie.Start) → 2 ≤ c.args.f.free → 2 ≤ free c.args.size (queueOf c.args.size c.args.f c.args.ram.now c.args.dir.now)
+left : (c : tie.Start) → 2 ≤ c.args.f.free → 2 ≤ free c.args.size (queue_of c.args.size c.args.f c.args.ram.now c.args.dir.now)
 left c h = omega (arith, c.requires.packed.counted)
 
-none : (c : tie.Start) → c.args.f.free < 2 → free c.args.size (queueOf c.args.size c.args.f c.args.ram.now c.args.dir.now) < 2
+none : (c : tie.Start) → c.args.f.free < 2 → free c.args.size (queue_of c.args.size c.args.f c.args.ram.now c.args.dir.now) < 2
 none c h = omega (arith, c.requires.packed.counted)
 
 -- behind the bytes of the packets and of the words before it, from the area's end: the free bytes, and 4 for each preamble
@@ -30,13 +30,13 @@ returns : tie.Need-returns
 returns c =
     let o = c.before.before.before in
     let s = o.args in
-    turns_same s.size s.f s.ram.now s.dir.now _ o.requires.packed (sym (put-stays s.size s.v (queueOf s.size s.f s.ram.now s.dir.now) c.if1.true))
+    turns_same s.size s.f s.ram.now s.dir.now _ o.requires.packed (sym (put-stays s.size s.v (queue_of s.size s.f s.ram.now s.dir.now) c.if1.true))
 
 returns-2 : tie.Need-returns-2
 returns-2 c =
     let o = c.before.before.before.before in
     let s = o.args in
-    turns-fails s.size s.v s.f s.ram.now s.dir.now o.requires.packed (put_full s.size s.v (queueOf s.size s.f s.ram.now s.dir.now) c.before.if1.false (none o c.if2.true))
+    turns-fails s.size s.v s.f s.ram.now s.dir.now o.requires.packed (put_full s.size s.v (queue_of s.size s.f s.ram.now s.dir.now) c.before.if1.false (none o c.if2.true))
 
 put-first-requires : tie.Need-put-first-requires
 put-first-requires c κs =
@@ -78,10 +78,10 @@ returns-5 : tie.Need-returns-5
 returns-5 c =
     let o = c.before.before.before.before.before.before.before.before.before.before.before in
     let s = o.args in
-    let q = queueOf s.size s.f s.ram.now s.dir.now in
+    let q = queue_of s.size s.f s.ram.now s.dir.now in
     let more : 2 ≤ q.part.words =
     omega (arith, words_of s.size s.f.packets s.f.words s.ram.now s.dir.now, c.before.before.before.before.before.before.if3.false, c.before.before.before.before.before.if4.false) in
-    rw (put-more s.size s.v q c.before.before.before.before.before.before.before.before.if1.false (left o c.before.before.before.before.before.before.before.if2.false) more) c.before.before.put-data.ensures
+    rw (put_more s.size s.v q c.before.before.before.before.before.before.before.before.if1.false (left o c.before.before.before.before.before.before.before.if2.false) more) c.before.before.put-data.ensures
 
 pub put-word-spec : {M : Type 1} → statement M
 put-word-spec =

@@ -1,12 +1,12 @@
 -- `regs::power_on` meets its contract, by the law `started-blank`. Assumes nothing.
 use borrow.Author.Rules.{rules}
 use Rattle.card_rules.proofs.Blank.{started-blank}
-use Rattle.card_rules.specs.Power.{powerOn}
+use Rattle.card_rules.specs.Power.{power_on}
 use Rattle.regs.proofs.power_on.Statement.{statement}
 use Rattle.regs.proofs.power_on.Tie as tie
 
 returns : tie.Need-returns
-unfolding powerOn
+unfolding power_on
 returns c =
     let s = c.before.before.before.before.before.before.before.args in
     let first = c.before.before.before.before.before.before.fresh in

@@ -1,12 +1,12 @@
 -- `regs::rx_size` meets its contract: the tests pick the split. Assumes nothing.
 use lib.Dec.{lit≤}
 use borrow.Author.Tests.{eq-eqb, ne_eqb}
-use Rattle.card_rules.specs.Room.{rxSize}
+use Rattle.card_rules.specs.Room.{rx_size}
 use Rattle.regs.proofs.rx_size.Statement.{statement}
 use Rattle.regs.proofs.rx_size.Tie as tie
 
 pub rx-size-spec : {M : Type 1} → statement M
-unfolding rxSize
+unfolding rx_size
 rx-size-spec =
     tie.close
     (tie.spec

@@ -8,7 +8,7 @@ settle-sides-requires : tie.Need-settle-sides-requires
 settle-sides-requires c κs = c.before.before.requires
 
 flags-of-requires : tie.Need-flags-of-requires
-flags-of-requires c κs = (c.settle-sides.ensures.held, c.settle-sides.ensures.rx-sound)
+flags-of-requires c κs = (c.settle-sides.ensures.held, c.settle-sides.ensures.rx_sound_is)
 
 returns : tie.Need-returns
 returns c =

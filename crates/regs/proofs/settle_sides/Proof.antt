@@ -1,4 +1,4 @@
--- `regs::settle_sides` meets its contract, by the law `sides-settle`. Assumes nothing.
+-- `regs::settle_sides` meets its contract, by the law `sides_settle`. Assumes nothing.
 use borrow.Author.Rules.{rules}
 use mathlib.Core.Path.{subst⁻¹}
 use Prim.Native.Nat.{ℕ, ◌%◌}
@@ -7,7 +7,7 @@ use Rattle.transmit_rules.specs.View as tx
 use Rattle.card_rules.specs.View.{view}
 use Rattle.card_rules.proofs.Ranges.{tx-small}
 use Rattle.card_rules.proofs.Sides.{tx-kept}
-use Rattle.card_rules.proofs.Ends.{sides-settle}
+use Rattle.card_rules.proofs.Ends.{sides_settle}
 use Rattle.regs.proofs.settle_sides.Statement.{statement}
 use Rattle.regs.proofs.settle_sides.Tie as tie
 
@@ -27,7 +27,7 @@ settle-requires c κs =
 returns : tie.Need-returns
 returns c =
     let s = c.before.before.before.before.before.before in
-    sides-settle _ _ _ _ _ _ _ c.before.before.before.rx-size.ensures.0 c.before.tx-size.ensures.0 s.requires.0 s.requires.1 c.before.before.settle-early.ensures c.settle.ensures
+    sides_settle _ _ _ _ _ _ _ c.before.before.before.rx-size.ensures.0 c.before.tx-size.ensures.0 s.requires.0 s.requires.1 c.before.before.settle-early.ensures c.settle.ensures
 
 pub settle-sides-spec : {M : Type 1} → statement M
 settle-sides-spec = tie.close (tie.spec (λ c κs. search rules) settle-early-requires (λ c κs. search rules) settle-requires returns)

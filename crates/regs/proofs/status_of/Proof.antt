@@ -1,7 +1,7 @@
 -- `regs::status_of` meets its contract: the window is at most 7, so that the sum fits. Assumes nothing.
 use native.Mathlib.Omega.{arith}
 use borrow.Author.Rules.{rules}
-use Rattle.card_rules.specs.Status.{statusOf}
+use Rattle.card_rules.specs.Status.{status_of}
 use Rattle.card_rules.proofs.Ranges.{window-small}
 use Rattle.regs.proofs.status_of.Statement.{statement}
 use Rattle.regs.proofs.status_of.Tie as tie
@@ -15,7 +15,7 @@ add-result-7 c =
     omega (arith, window-small s.args.s s.requires)
 
 returns : tie.Need-returns
-unfolding statusOf
+unfolding status_of
 returns c = omega arith
 
 pub status-of-spec : {M : Type 1} → statement M

@@ -1,12 +1,12 @@
 -- `regs::tx_size` meets its contract: the tests pick the split. Assumes nothing.
 use lib.Dec.{lit≤}
 use borrow.Author.Tests.{eq-eqb, ne_eqb}
-use Rattle.card_rules.specs.Room.{txSize}
+use Rattle.card_rules.specs.Room.{tx_size}
 use Rattle.regs.proofs.tx_size.Statement.{statement}
 use Rattle.regs.proofs.tx_size.Tie as tie
 
 pub tx-size-spec : {M : Type 1} → statement M
-unfolding txSize
+unfolding tx_size
 tx-size-spec =
     tie.close
     (tie.spec

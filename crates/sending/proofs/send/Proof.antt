@@ -1,7 +1,7 @@
 -- `sending::send`: each way through it is a law of Ways. Assumes nothing.
 use Rattle.std.proofs.Common.{sym, refl, ◌∙◌, arith, rules}
 use borrow.Author.Tests.{not-true, not-false}
-use Rattle.driver_rules.proofs.Runs.{gave, ram-kept, dir-kept}
+use Rattle.driver_rules.proofs.Runs.{gave, ram_kept, dir_kept}
 use Rattle.driver_rules.proofs.SendWays as ways
 use Rattle.sending.proofs.send.Statement.{statement}
 use Rattle.sending.proofs.send.Tie as tie
@@ -70,10 +70,10 @@ ticketed-requires : tie.Need-ticketed-requires
 ticketed-requires c κs = omega (arith, c.before.before.before.before.before.before.before.before.before.before.before.before.before.before.before.before.before.if3.false)
 
 same-length-5 : tie.Need-same-length-5
-same-length-5 c = ram-kept c.before.before.before.before.before.write-packet.ensures.sound c.before.before.before.before.before.before.before.before.before.before.before.before.before.before.before.before.before.before.before.before.before.before.before.before.before.before.requires
+same-length-5 c = ram_kept c.before.before.before.before.before.write-packet.ensures.sound c.before.before.before.before.before.before.before.before.before.before.before.before.before.before.before.before.before.before.before.before.before.before.before.before.before.before.requires
 
 same-length-6 : tie.Need-same-length-6
-same-length-6 c = dir-kept c.before.before.before.before.before.write-packet.ensures.sound c.before.before.before.before.before.before.before.before.before.before.before.before.before.before.before.before.before.before.before.before.before.before.before.before.before.before.requires
+same-length-6 c = dir_kept c.before.before.before.before.before.write-packet.ensures.sound c.before.before.before.before.before.before.before.before.before.before.before.before.before.before.before.before.before.before.before.before.before.before.before.before.before.before.requires
 
 returns-6 : tie.Need-returns-6
 returns-6 c = let A = c.before.before.before.before.before.before.before.before.before.before.before.before.before.before.before.before.before.before.before.before.before.before.before.before.before.before.args in rw c.ticketed.ensures (ways.taken A.d A.packet.now A.c A.ram.now A.dir.now (not-false _ c.before.before.before.before.before.before.before.before.before.before.before.before.before.before.before.before.before.before.before.before.before.if1.false) (sym c.before.before.before.before.before.before.before.before.before.before.before.before.before.before.before.before.before.before.before.before.is-outside.ensures ∙ c.before.before.before.before.before.before.before.before.before.before.before.before.before.before.before.before.before.before.before.if2.false) (omega (arith, c.before.before.before.before.before.before.before.before.before.before.before.before.before.before.before.before.before.before.if3.false)) _ _ (gave c.before.before.before.before.before.before.before.before.before.before.before.before.before.before.before.read_word.ensures) (sym c.before.before.before.before.before.before.before.before.before.before.before.before.before.before.is-unfit.ensures ∙ c.before.before.before.before.before.before.before.before.before.before.before.before.before.if4.false) _ _ (gave c.before.before.before.before.before.before.before.before.before.before.read-word2.ensures) (sym c.before.before.before.before.before.before.before.before.before.lacks-room.ensures ∙ c.before.before.before.before.before.before.before.before.if5.false) _ _ _ c.before.before.before.before.before.write-packet.ensures)

@@ -2,14 +2,14 @@
 use Rattle.std.proofs.Common.{◌≡◌, ◌-◌, ◌*◌, ◌≤◌, drop, sym, refl, ◌∙◌, arith, rules}
 use native.Mathlib.Nat.{sub-zero}
 use Rattle.card_rules.specs.View.{view, Sound}
-use Rattle.driver_rules.specs.Talk.{words_of, after, afterWrites}
-use Rattle.driver_rules.proofs.Runs.{wrote, write-turn, ram-kept, dir-kept}
+use Rattle.driver_rules.specs.Talk.{words_of, after, after_writes}
+use Rattle.driver_rules.proofs.Runs.{wrote, write_turn, ram_kept, dir_kept}
 use Rattle.sending.proofs.write_data.Statement.{statement}
 use Rattle.sending.proofs.write_data.Tie as tie
 
 abbrev invariant-loop : tie.invariant-loop
 invariant-loop ram₀ dir₀ packet words at₀ i₀ ram dir at i =
-    (i ≤ words) × (Sound at ram dir × (afterWrites (words_of words packet) (view at₀ ram₀ dir₀) ≡ afterWrites (words_of (words - i) (drop (2 * i) packet)) (view at ram dir)))
+    (i ≤ words) × (Sound at ram dir × (after_writes (words_of words packet) (view at₀ ram₀ dir₀) ≡ after_writes (words_of (words - i) (drop (2 * i) packet)) (view at ram dir)))
 
 abbrev decreases-loop : tie.decreases-loop
 decreases-loop ram₀ dir₀ packet words at₀ i₀ ram dir at i = words - i
@@ -48,13 +48,13 @@ loop-less : tie.Need-loop-smaller invariant-loop decreases-loop
 loop-less c = omega (arith, c.before.before.before.before.before.before.before.before.before.loop-test.true)
 
 loop-again : tie.Need-loop-preserved invariant-loop decreases-loop
-loop-again c = (omega (arith, c.before.before.before.before.before.before.before.before.before.loop-test.true), (c.before.before.before.before.write_word.ensures.sound, c.before.before.before.before.before.before.before.before.before.before.loop.invariant.1.1 ∙ write-turn _ _ _ _ _ _ _ c.before.before.before.before.before.before.before.before.before.loop-test.true (rw (c.before.before.before.before.before.before.before.before.byte_of.ensures.0, c.before.before.before.before.before.before.before.byte-of2.ensures.0)) (wrote _ c.before.before.before.before.write_word.ensures)))
+loop-again c = (omega (arith, c.before.before.before.before.before.before.before.before.before.loop-test.true), (c.before.before.before.before.write_word.ensures.sound, c.before.before.before.before.before.before.before.before.before.before.loop.invariant.1.1 ∙ write_turn _ _ _ _ _ _ _ c.before.before.before.before.before.before.before.before.before.loop-test.true (rw (c.before.before.before.before.before.before.before.before.byte_of.ensures.0, c.before.before.before.before.before.before.before.byte-of2.ensures.0)) (wrote _ c.before.before.before.before.write_word.ensures)))
 
 same_length : tie.Need-same-length invariant-loop decreases-loop
-same_length c = ram-kept c.before.loop.invariant.1.0 c.before.before.before.before.before.requires.0
+same_length c = ram_kept c.before.loop.invariant.1.0 c.before.before.before.before.before.requires.0
 
 same-length-2 : tie.Need-same-length-2 invariant-loop decreases-loop
-same-length-2 c = dir-kept c.before.loop.invariant.1.0 c.before.before.before.before.before.requires.0
+same-length-2 c = dir_kept c.before.loop.invariant.1.0 c.before.before.before.before.before.requires.0
 
 returns : tie.Need-returns invariant-loop decreases-loop
 unfolding words_of after

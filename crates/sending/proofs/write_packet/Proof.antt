@@ -1,6 +1,6 @@
 -- `sending::write_packet`: the preamble and the data, one after the other. Assumes nothing.
 use Rattle.std.proofs.Common.{refl, arith, rules}
-use Rattle.driver_rules.proofs.Runs.{ram-kept, dir-kept}
+use Rattle.driver_rules.proofs.Runs.{ram_kept, dir_kept}
 use Rattle.driver_rules.proofs.SendWays as ways
 use Rattle.sending.proofs.write_packet.Statement.{statement}
 use Rattle.sending.proofs.write_packet.Tie as tie
@@ -24,10 +24,10 @@ write-data-requires : tie.Need-write-data-requires
 write-data-requires c κs = (c.before.before.before.before.before.before.before.write-word2.ensures.sound, omega (arith, c.round_up.ensures.1))
 
 same_length : tie.Need-same-length
-same_length c = ram-kept c.before.before.before.before.write-data.ensures.sound c.before.before.before.before.before.before.before.before.before.before.before.before.before.before.before.before.before.before.before.before.before.before.before.before.before.requires.0
+same_length c = ram_kept c.before.before.before.before.write-data.ensures.sound c.before.before.before.before.before.before.before.before.before.before.before.before.before.before.before.before.before.before.before.before.before.before.before.before.before.requires.0
 
 same-length-2 : tie.Need-same-length-2
-same-length-2 c = dir-kept c.before.before.before.before.write-data.ensures.sound c.before.before.before.before.before.before.before.before.before.before.before.before.before.before.before.before.before.before.before.before.before.before.before.before.before.requires.0
+same-length-2 c = dir_kept c.before.before.before.before.write-data.ensures.sound c.before.before.before.before.before.before.before.before.before.before.before.before.before.before.before.before.before.before.before.before.before.before.before.before.before.requires.0
 
 returns : tie.Need-returns
 returns c = ways.written _ _ _ c.before.before.before.before.before.round_up.ensures.0 c.before.before.before.before.before.before.before.before.before.before.before.before.before.before.before.before.before.before.before.write_word.ensures c.before.before.before.before.before.before.before.before.before.before.before.before.write-word2.ensures c.before.before.before.before.write-data.ensures

@@ -3,7 +3,7 @@ use borrow.Author.Rules.{rules}
 use Rattle.card_rules.specs.View.{view}
 use Rattle.card_rules.specs.Event.{collisions}
 use Rattle.card_rules.proofs.StepKeeps.{collisions-keeps}
-use Rattle.card_rules.proofs.StepEnds.{unsettled, settled-as}
+use Rattle.card_rules.proofs.StepEnds.{unsettled, settled_as}
 use Rattle.steps.proofs.collisions.Statement.{statement}
 use Rattle.steps.proofs.collisions.Tie as tie
 
@@ -15,7 +15,7 @@ settle-requires c κs =
 
 returns : tie.Need-returns
 unfolding collisions view
-returns c = settled-as _ _ _ _ _ c.before.before.before.before.before.before.before.collisions.ensures c.settle.ensures
+returns c = settled_as _ _ _ _ _ c.before.before.before.before.before.before.before.collisions.ensures c.settle.ensures
 
 pub collisions-spec : {M : Type 1} → statement M
 collisions-spec = tie.close (tie.spec (λ c κs. search rules) settle-requires (λ c. search rules) (λ c. search rules) returns)

@@ -3,7 +3,7 @@ use borrow.Author.Rules.{rules}
 use borrow.Author.Tests.{not-true, not-false}
 use native.Mathlib.Omega.{arith}
 use Rattle.card_rules.specs.Access.{ReadByte}
-use Rattle.card_rules.proofs.StepEnds.{gives-ones, gives-low, gives-high}
+use Rattle.card_rules.proofs.StepEnds.{gives-ones, gives_low, gives_high}
 use Rattle.steps.proofs.read_byte.Statement.{statement}
 use Rattle.steps.proofs.read_byte.Tie as tie
 
@@ -16,7 +16,7 @@ word-at-requires c κs = let s = c.before.before.before.before.before.requires i
 returns-2 : tie.Need-returns-2
 returns-2 c =
     let s = c.before.before.before.before.before.before in
-    gives-low s.args.c _ _ s.requires.0 s.args.o _ (not-false _ c.before.before.if1.false) c.before.if2.true c.word-at.ensures
+    gives_low s.args.c _ _ s.requires.0 s.args.o _ (not-false _ c.before.before.if1.false) c.before.if2.true c.word-at.ensures
 
 word-at-requires-2 : tie.Need-word-at-requires-2
 word-at-requires-2 c κs =
@@ -26,7 +26,7 @@ word-at-requires-2 c κs =
 returns-3 : tie.Need-returns-3
 returns-3 c =
     let s = c.before.before.before.before.before.before in
-    gives-high s.args.c _ _ s.requires.0 s.args.o _ (not-false _ c.before.before.if1.false) c.before.if2.false c.word-at2.ensures
+    gives_high s.args.c _ _ s.requires.0 s.args.o _ (not-false _ c.before.before.if1.false) c.before.if2.false c.word-at2.ensures
 
 pub read-byte-spec : {M : Type 1} → statement M
 read-byte-spec = tie.close (tie.spec returns word-at-requires returns-2 (λ c. search rules) word-at-requires-2 returns-3)

@@ -3,7 +3,7 @@ use borrow.Author.Tests.{not-true, not-false}
 use Rattle.card_rules.specs.View.{view}
 use Rattle.card_rules.specs.Access.{ReadWord}
 use Rattle.card_rules.proofs.StepKeeps.{taken-keeps}
-use Rattle.card_rules.proofs.StepEnds.{unsettled, settled-as, gives-ones, gives-word, gives-data, beside-data}
+use Rattle.card_rules.proofs.StepEnds.{unsettled, settled_as, gives-ones, gives-word, gives_data, beside_data}
 use Rattle.steps.proofs.read_word.Statement.{statement}
 use Rattle.steps.proofs.read_word.Tie as tie
 
@@ -21,11 +21,11 @@ settle-requires c κs =
 returns-2 : tie.Need-returns-2
 returns-2 c =
     let s = c.before.before.before.before.before.before.before.before in
-    gives-data s.args.c s.args.ram.now s.args.dir.now s.requires.0 s.args.o _ _ (not-false _ c.before.before.before.before.if1.false) c.before.before.if2.true c.before.take-word.ensures.0
-    (settled-as _ _ _ _ _ c.before.take-word.ensures.1 c.settle.ensures)
+    gives_data s.args.c s.args.ram.now s.args.dir.now s.requires.0 s.args.o _ _ (not-false _ c.before.before.before.before.if1.false) c.before.before.if2.true c.before.take-word.ensures.0
+    (settled_as _ _ _ _ _ c.before.take-word.ensures.1 c.settle.ensures)
 
 word-at-requires : tie.Need-word-at-requires
-word-at-requires c κs = let s = c.before.before.before.before.before.before.requires in (s.0, s.1, beside-data _ _ c.if2.false)
+word-at-requires c κs = let s = c.before.before.before.before.before.before.requires in (s.0, s.1, beside_data _ _ c.if2.false)
 
 returns-3 : tie.Need-returns-3
 returns-3 c =

@@ -3,7 +3,7 @@ use borrow.Author.Rules.{rules}
 use Rattle.card_rules.specs.View.{view}
 use Rattle.card_rules.specs.Event.{seat}
 use Rattle.card_rules.proofs.StepKeeps.{seat-keeps}
-use Rattle.card_rules.proofs.StepEnds.{unsettled, settled-as}
+use Rattle.card_rules.proofs.StepEnds.{unsettled, settled_as}
 use Rattle.steps.proofs.seat.Statement.{statement}
 use Rattle.steps.proofs.seat.Tie as tie
 
@@ -14,7 +14,7 @@ settle-requires c κs =
 
 returns : tie.Need-returns
 unfolding seat
-returns c = settled-as _ _ _ _ _ (c.before.seat.ensures _ _ c.before.before.before.before.requires.0.held) c.settle.ensures
+returns c = settled_as _ _ _ _ _ (c.before.seat.ensures _ _ c.before.before.before.before.requires.0.held) c.settle.ensures
 
 pub seat-spec : {M : Type 1} → statement M
 seat-spec = tie.close (tie.spec (λ c κs. search rules) settle-requires returns)

@@ -3,7 +3,7 @@ use borrow.Author.Rules.{rules}
 use Rattle.card_rules.specs.View.{view}
 use Rattle.card_rules.specs.Event.{success}
 use Rattle.card_rules.proofs.StepKeeps.{success-keeps}
-use Rattle.card_rules.proofs.StepEnds.{unsettled, settled-as}
+use Rattle.card_rules.proofs.StepEnds.{unsettled, settled_as}
 use Rattle.steps.proofs.success.Statement.{statement}
 use Rattle.steps.proofs.success.Tie as tie
 
@@ -15,7 +15,7 @@ settle-requires c κs =
 
 returns : tie.Need-returns
 unfolding success view
-returns c = (settled-as _ _ _ _ _ c.before.before.before.before.before.before.before.before.before.success.ensures.0 c.settle.ensures, c.before.before.before.before.before.before.before.before.before.success.ensures.1)
+returns c = (settled_as _ _ _ _ _ c.before.before.before.before.before.before.before.before.before.success.ensures.0 c.settle.ensures, c.before.before.before.before.before.before.before.before.before.success.ensures.1)
 
 pub success-spec : {M : Type 1} → statement M
 success-spec = tie.close (tie.spec (λ c κs. search rules) settle-requires (λ c. search rules) (λ c. search rules) (λ c. search rules) returns)

@@ -4,7 +4,7 @@ use borrow.Author.Tests.{not-true, not-false}
 use Rattle.card_rules.specs.View.{view}
 use Rattle.card_rules.specs.Access.{WriteWord, effect}
 use Rattle.card_rules.proofs.StepKeeps.{word_keeps}
-use Rattle.card_rules.proofs.StepEnds.{unsettled, settled-as, stands-ones, written_as}
+use Rattle.card_rules.proofs.StepEnds.{unsettled, settled_as, stands-ones, written_as}
 use Rattle.steps.proofs.write_word.Statement.{statement}
 use Rattle.steps.proofs.write_word.Tie as tie
 
@@ -23,7 +23,7 @@ returns-2 : tie.Need-returns-2
 unfolding effect
 returns-2 c =
     let s = c.before.before.before.before.before.before.before.before.before.before.before.before.before.before in
-    written_as (WriteWord s.args.o s.args.v) s.args.c _ _ _ _ _ (not-false _ c.before.before.before.before.before.before.before.before.before.before.if1.false) (settled-as _ _ _ _ _ c.before.before.before.before.before.before.before.write_word.ensures c.settle.ensures)
+    written_as (WriteWord s.args.o s.args.v) s.args.c _ _ _ _ _ (not-false _ c.before.before.before.before.before.before.before.before.before.before.if1.false) (settled_as _ _ _ _ _ c.before.before.before.before.before.before.before.write_word.ensures c.settle.ensures)
 
 pub write-word-spec : {M : Type 1} → statement M
 write-word-spec = tie.close (tie.spec returns write-word-requires settle-requires (λ c. search rules) (λ c. search rules) returns-2)

@@ -1,13 +1,13 @@
 -- `transmit::write_data` meets its contract: the word goes to the FIFO, and the outcomes stay. Assumes nothing.
 use mathlib.Core.Path.{refl}
 use borrow.Author.Rules.{rules}
-use Rattle.transmit_rules.proofs.Sound.{fifo-holds}
+use Rattle.transmit_rules.proofs.Sound.{fifo_holds}
 use Rattle.transmit_rules.proofs.Steps.{step-turns}
 use Rattle.transmit.proofs.write_data.Statement.{statement}
 use Rattle.transmit.proofs.write_data.Tie as tie
 
 put-word-requires : tie.Need-put-word-requires
-put-word-requires c κs = let s = c.before.before.before.before.args in fifo-holds s.size s.t s.ram.now s.dir.now c.before.before.before.before.requires
+put-word-requires c κs = let s = c.before.before.before.before.args in fifo_holds s.size s.t s.ram.now s.dir.now c.before.before.before.before.requires
 
 returns : tie.Need-returns
 returns c =

@@ -3,7 +3,7 @@
 use borrow.Author.Rules.{rules}
 use borrow.Author.Tests.{not-true, not-false}
 use Rattle.card_rules.specs.View.{view}
-use Rattle.card_rules.proofs.Groups.{is_same, is-id, is-prom}
+use Rattle.card_rules.proofs.Groups.{is_same, is_id, is_prom}
 use Rattle.window_write.proofs.eeprom.Statement.{statement}
 use Rattle.window_write.proofs.eeprom.Tie as tie
 
@@ -18,7 +18,7 @@ returns-2 c ram dir h =
       not-false c.before.before.before.before.covers_low.result c.before.before.before.if1.false,
       c.before.before.prom-command.ensures,
     )
-    (is-prom _ ram dir (is-id _ ram dir h _).held _)
+    (is_prom _ ram dir (is_id _ ram dir h _).held _)
 
 pub eeprom-spec : {M : Type 1} → statement M
 eeprom-spec = tie.close (tie.spec (λ c κs. search rules) returns (λ c. search rules) (λ c κs. search rules) returns-2)

@@ -3,7 +3,7 @@ use mathlib.Core.Path.{refl}
 use borrow.Author.Rules.{rules}
 use borrow.Author.Tests.{ne_eqb}
 use Rattle.card_rules.specs.View.{view}
-use Rattle.card_rules.proofs.Groups.{is_same, is-id, is-config}
+use Rattle.card_rules.proofs.Groups.{is_same, is_id, is_config}
 use Rattle.card_rules.specs.Write.{write0}
 use Rattle.window_write.proofs.write_0.Statement.{statement}
 use Rattle.window_write.proofs.write_0.Tie as tie
@@ -14,11 +14,11 @@ returns c ram dir h = rw c.before.match.keys1 (c.control.ensures ram dir h)
 
 returns-2 : tie.Need-returns-2
 unfolding write0 view
-returns-2 c ram dir h = rw (c.before.before.match.keys2, c.set-address.ensures, c.before.mixed.ensures) (is-id _ ram dir h _)
+returns-2 c ram dir h = rw (c.before.before.match.keys2, c.set-address.ensures, c.before.mixed.ensures) (is_id _ ram dir h _)
 
 returns-3 : tie.Need-returns-3
 unfolding write0 view
-returns-3 c ram dir h = rw (c.before.before.match.keys3, c.set-resource.ensures, c.before.mixed2.ensures) (is-config _ ram dir h _ refl)
+returns-3 c ram dir h = rw (c.before.before.match.keys3, c.set-resource.ensures, c.before.mixed2.ensures) (is_config _ ram dir h _ refl)
 
 returns-4 : tie.Need-returns-4
 unfolding write0
@@ -26,7 +26,7 @@ returns-4 c ram dir h = rw c.before.match.keys4 (c.eeprom.ensures ram dir h)
 
 returns-5 : tie.Need-returns-5
 unfolding write0 view
-returns-5 c ram dir h = rw (c.before.before.match.keys5, c.set-shift.ensures, c.before.mixed3.ensures) (is-id _ ram dir h _)
+returns-5 c ram dir h = rw (c.before.before.match.keys5, c.set-shift.ensures, c.before.mixed3.ensures) (is_id _ ram dir h _)
 
 returns-6 : tie.Need-returns-6
 unfolding write0

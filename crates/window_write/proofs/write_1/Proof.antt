@@ -3,7 +3,7 @@ use borrow.Author.Rules.{rules}
 use borrow.Author.Tests.{lt-ltb, le-ltb}
 use Rattle.card_rules.proofs.Groups.{is_same}
 use Rattle.card_rules.specs.Write.{write1}
-use Rattle.card_rules.proofs.Tests.{one-test}
+use Rattle.card_rules.proofs.Tests.{one_test}
 use Rattle.window_write.proofs.write_1.Statement.{statement}
 use Rattle.window_write.proofs.write_1.Tie as tie
 
@@ -21,13 +21,13 @@ pop-status-requires c κs = c.before.before.before.before.before.requires.held.s
 returns-2 : tie.Need-returns-2
 unfolding write1
 returns-2 c =
-    rw (le-ltb _ _ c.before.before.before.if1.false, ← c.before.before.covers_high.ensures, one-test, c.before.if2.true)
+    rw (le-ltb _ _ c.before.before.before.if1.false, ← c.before.before.covers_high.ensures, one_test, c.before.if2.true)
     (c.pop-status.ensures _ _ c.before.before.before.before.before.before.requires.held)
 
 returns-3 : tie.Need-returns-3
 unfolding write1
 returns-3 c =
-    rw (le-ltb _ _ c.before.before.if1.false, ← c.before.covers_high.ensures, one-test, c.if2.false)
+    rw (le-ltb _ _ c.before.before.if1.false, ← c.before.covers_high.ensures, one_test, c.if2.false)
     (is_same _ _ _ c.before.before.before.before.before.requires.held)
 
 pub write-1-spec : {M : Type 1} → statement M

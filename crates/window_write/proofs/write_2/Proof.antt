@@ -3,7 +3,7 @@ use mathlib.Core.Path.{refl}
 use borrow.Author.Rules.{rules}
 use borrow.Author.Tests.{lt-ltb, le-ltb}
 use Rattle.card_rules.specs.View.{view}
-use Rattle.card_rules.proofs.Groups.{is_same, is-config}
+use Rattle.card_rules.proofs.Groups.{is_same, is_config}
 use Rattle.card_rules.specs.Write.{write2}
 use Rattle.window_write.proofs.write_2.Statement.{statement}
 use Rattle.window_write.proofs.write_2.Tie as tie
@@ -12,7 +12,7 @@ returns : tie.Need-returns
 unfolding write2 view
 returns c ram dir h =
     rw (lt-ltb _ _ c.before.before.before.before.if1.true, c.before.mixed.ensures, c.before.before.pair.ensures)
-    (is-config c.before.before.before.before.before.args.c ram dir h _ refl)
+    (is_config c.before.before.before.before.before.args.c ram dir h _ refl)
 
 returns-2 : tie.Need-returns-2
 unfolding write2

@@ -3,14 +3,14 @@ use mathlib.Core.Path.{refl}
 use borrow.Author.Rules.{rules}
 use borrow.Author.Tests.{ne_eqb}
 use Rattle.card_rules.specs.View.{view}
-use Rattle.card_rules.proofs.Groups.{is_same, is-config}
+use Rattle.card_rules.proofs.Groups.{is_same, is_config}
 use Rattle.card_rules.specs.Write.{write3}
 use Rattle.window_write.proofs.write_3.Statement.{statement}
 use Rattle.window_write.proofs.write_3.Tie as tie
 
 returns : tie.Need-returns
 unfolding write3 view
-returns c ram dir h = rw (c.before.before.match.keys1, c.set_first.ensures, c.before.mixed.ensures) (is-config _ ram dir h _ refl)
+returns c ram dir h = rw (c.before.before.match.keys1, c.set_first.ensures, c.before.mixed.ensures) (is_config _ ram dir h _ refl)
 
 returns-2 : tie.Need-returns-2
 unfolding write3 view

@@ -5,13 +5,13 @@ use borrow.Author.Tests.{not-true, not-false}
 use mathlib.Core.Path.{◌≡◌, sym, ◌∙◌}
 use mathlib.Core.Bool.{true}
 use lib.ListN.{length}
-use Rattle.card_rules.specs.View.{Sound, soundCard}
+use Rattle.card_rules.specs.View.{Sound, sound_card}
 use Rattle.card_rules.proofs.Checked.{card-told}
 use Rattle.abi.proofs.Port.{unsound, outside, goes, identified}
 use Rattle.abi.proofs.ids.seated.Statement.{statement}
 use Rattle.abi.proofs.ids.seated.Tie as tie
 
-sounds : (c : tie.Start) → length c.args.ram.now ≡ 8192 → length c.args.dir.now ≡ 1110 → soundCard c.args.c c.args.ram.now c.args.dir.now ≡ true
+sounds : (c : tie.Start) → length c.args.ram.now ≡ 8192 → length c.args.dir.now ≡ 1110 → sound_card c.args.c c.args.ram.now c.args.dir.now ≡ true
     → Sound c.args.c c.args.ram.now c.args.dir.now
 sounds c r d e = card-told c.args.c c.args.ram.now c.args.dir.now r d e
 

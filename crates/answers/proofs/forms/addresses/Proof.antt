@@ -1,8 +1,8 @@
 use Prim.Native.Nat.{◌≤◌, ◌+◌, ◌-◌, ◌*◌}
-use Rattle.bench_rules.proofs.Spoken.{more-addresses, no_address}
+use Rattle.bench_rules.proofs.Spoken.{more_addresses, no_address}
 use Rattle.answers.proofs.forms.addresses.Statement.{statement}
 use Rattle.answers.proofs.forms.addresses.Tie as tie
-use Rattle.bench_rules.specs.Answers.{addressesText}
+use Rattle.bench_rules.specs.Answers.{addresses_text}
 use Rattle.bench_rules.specs.Text.{Puts}
 use borrow.Author.Rules.{rules}
 use lib.ListN.{take, length}
@@ -10,7 +10,7 @@ use mathlib.Core.Path.{◌≡◌}
 use native.Mathlib.Omega.{arith}
 
 abbrev invariant-loop : tie.invariant-loop
-invariant-loop text₀ at m found place₀ i₀ text place i = (i ≤ m) × ((place ≡ at + 13 * i) × Puts (addressesText (take i found)) at text₀ text place)
+invariant-loop text₀ at m found place₀ i₀ text place i = (i ≤ m) × ((place ≡ at + 13 * i) × Puts (addresses_text (take i found)) at text₀ text place)
 
 abbrev decreases-loop : tie.decreases-loop
 decreases-loop text₀ at m found place₀ i₀ text place i = m - i
@@ -34,7 +34,7 @@ loop-less : tie.Need-loop-smaller invariant-loop decreases-loop
 loop-less c = search rules
 
 loop-again : tie.Need-loop-preserved invariant-loop decreases-loop
-loop-again c = (omega arith, (omega (arith, c.before.before.address.ensures.next), more-addresses c.before.before.before.before.before.before.before.args.t4 c.before.before.before.before.before.loop.i c.before.before.before.before.before.before.before.args.at c.before.before.before.before.before.loop.place _ c.before.before.before.before.before.loop.invariant.1.1 c.before.before.address.ensures (omega arith)))
+loop-again c = (omega arith, (omega (arith, c.before.before.address.ensures.next), more_addresses c.before.before.before.before.before.before.before.args.t4 c.before.before.before.before.before.loop.i c.before.before.before.before.before.before.before.args.at c.before.before.before.before.before.loop.place _ c.before.before.before.before.before.loop.invariant.1.1 c.before.before.address.ensures (omega arith)))
 
 same_length : tie.Need-same-length invariant-loop decreases-loop
 same_length c = c.before.loop.invariant.1.1.long

@@ -3,7 +3,7 @@ use mathlib.Core.Path.{refl, ap}
 use borrow.Author.Rules.{rules}
 use mir.Syntax.{w16}
 use mir.ValLaws.{to_z-of_z}
-use Rattle.bench_rules.specs.Answers.{signedText}
+use Rattle.bench_rules.specs.Answers.{signed_text}
 use Rattle.bench_rules.proofs.Placed as law
 use Rattle.answers.proofs.forms.rx_status.Statement.{statement}
 use Rattle.answers.proofs.forms.rx_status.Tie as tie
@@ -36,7 +36,7 @@ same_length : tie.Need-same-length
 same_length c = search rules
 
 returns : tie.Need-returns
-returns c = law.on (law.on (law.on (law.on c.before.before.before.before.before.before.before.before.before.before.before.before.before.before.before.before.before.before.before.before.put.ensures c.before.before.before.before.before.before.before.before.before.before.before.before.before.before.before.before.put_word.ensures) c.before.before.before.before.before.before.before.before.before.before.before.put2.ensures) (law.as_said c.before.before.before.before.before.before.before.signed.ensures.0 (ap signedText (to_z-of_z w16 c.before.before.before.before.before.before.before.before.before.before.before.before.before.before.before.before.before.before.before.before.before.before.before.before.args.n c.before.before.before.before.before.before.before.before.before.before.before.before.before.before.before.before.before.before.before.before.before.before.before.before.ranges.n)) refl)) c.before.before.put3.ensures
+returns c = law.on (law.on (law.on (law.on c.before.before.before.before.before.before.before.before.before.before.before.before.before.before.before.before.before.before.before.before.put.ensures c.before.before.before.before.before.before.before.before.before.before.before.before.before.before.before.before.put_word.ensures) c.before.before.before.before.before.before.before.before.before.before.before.put2.ensures) (law.as_said c.before.before.before.before.before.before.before.signed.ensures.0 (ap signed_text (to_z-of_z w16 c.before.before.before.before.before.before.before.before.before.before.before.before.before.before.before.before.before.before.before.before.before.before.before.before.args.n c.before.before.before.before.before.before.before.before.before.before.before.before.before.before.before.before.before.before.before.before.before.before.before.before.ranges.n)) refl)) c.before.before.put3.ensures
 
 pub rx-status-spec : {M : Type 1} → statement M
 rx-status-spec =

@@ -12,10 +12,10 @@ use lib.Signed.{lt_z, non_neg, nat_abs-le}
 use mir.Syntax.{w16, w32}
 use mir.Val.{Fits, SFits, to_z, of_z}
 use mir.ValLaws.{to_z-of_z}
-use Rattle.bench_rules.specs.Text.{decimalText}
-use Rattle.bench_rules.specs.Answers.{signedText}
+use Rattle.bench_rules.specs.Text.{decimal_text}
+use Rattle.bench_rules.specs.Answers.{signed_text}
 use Rattle.bench_rules.proofs.Placed as law
-use Rattle.bench_rules.proofs.Spoken.{below-zero, from_zero}
+use Rattle.bench_rules.proofs.Spoken.{below_zero, from_zero}
 use Rattle.answers.proofs.forms.signed.Statement.{statement}
 use Rattle.answers.proofs.forms.signed.Tie as tie
 
@@ -45,7 +45,7 @@ module _ (s : tie.Start) where
   negated = pos 0 -ℤ to_z w32 (of_z w32 z)
 
   negated-is : lt_z z (pos 0) ≡ true → negated ≡ pos (nat_abs z)
-  negated-is e = ap (λ (y : ℤ). pos 0 -ℤ y) (to_z-of_z w32 z wide_fits) ∙ (below-zero z e).0
+  negated-is e = ap (λ (y : ℤ). pos 0 -ℤ y) (to_z-of_z w32 z wide_fits) ∙ (below_zero z e).0
 
   negated_fits : lt_z z (pos 0) ≡ true → SFits w32 negated
   negated_fits e = subst (SFits w32) (sym (negated-is e)) (record { sfits = small })
@@ -78,7 +78,7 @@ returns : tie.Need-returns
 returns c =
     let s = c.before.before.before.before.before.before.before.before.before.before.before in
     let e = c.before.before.before.before.before.before.before.before.before.if1.true in (
-      law.as_said (law.on c.before.before.before.before.before.before.put.ensures c.before.before.put-decimal.ensures.0) (ap (λ (y : ℤ). (0x2D ∷ []) ++ decimalText (nat_abs y)) (negated-read s e) ∙ ((below-zero (z s) e).1 ∙ ap signedText (read s))) refl,
+      law.as_said (law.on c.before.before.before.before.before.before.put.ensures c.before.before.put-decimal.ensures.0) (ap (λ (y : ℤ). (0x2D ∷ []) ++ decimal_text (nat_abs y)) (negated-read s e) ∙ ((below_zero (z s) e).1 ∙ ap signed_text (read s))) refl,
       omega (arith, c.before.before.before.before.before.before.put.ensures.next),
     )
 
@@ -94,7 +94,7 @@ same-length-2 c = search rules
 returns-2 : tie.Need-returns-2
 returns-2 c =
     let s = c.before.before.before.before.before.before in
-    (law.as_said c.before.before.put-decimal2.ensures.0 ((from_zero (z s) c.before.before.before.before.if1.false).1 ∙ ap signedText (read s)) refl, omega arith)
+    (law.as_said c.before.before.put-decimal2.ensures.0 ((from_zero (z s) c.before.before.before.before.if1.false).1 ∙ ap signed_text (read s)) refl, omega arith)
 
 pub signed-spec : {M : Type 1} → statement M
 signed-spec =

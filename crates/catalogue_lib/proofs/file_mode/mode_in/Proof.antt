@@ -6,7 +6,7 @@ use mathlib.Core.Bool.{Bool, true, ◌||◌}
 use native.Mathlib.Omega.{arith}
 use borrow.Author.Tests.{lt-ltb}
 use lib.Dec.{eqb, ltb}
-use Rattle.catalogue_lib.specs.Mode.{isMode}
+use Rattle.catalogue_lib.specs.Mode.{is_mode}
 use borrow.Author.Rules.{rules}
 use Rattle.catalogue_lib.proofs.file_mode.mode_in.Statement.{statement}
 use Rattle.catalogue_lib.proofs.file_mode.mode_in.Tie as tie
@@ -14,7 +14,7 @@ use Rattle.catalogue_lib.proofs.file_mode.mode_in.Tie as tie
 or_left : (a b : Bool) → a ≡ true → a || b ≡ true
 or_left a b e = rw e
 
-twelve-bits : (n : ℕ) → isMode (n % 4096) ≡ true
+twelve-bits : (n : ℕ) → is_mode (n % 4096) ≡ true
 twelve-bits n = or_left (ltb (n % 4096) 4096) (eqb (n % 4096) 65536) (lt-ltb (n % 4096) 4096 (omega arith))
 
 returns : tie.Need-returns

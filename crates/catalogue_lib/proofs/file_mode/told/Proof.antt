@@ -3,7 +3,7 @@
 use mathlib.Core.Path.{◌≡◌, refl}
 use mathlib.Core.Bool.{true}
 use Prim.Native.Nat.{ℕ}
-use Rattle.catalogue_lib.specs.Mode.{isMode}
+use Rattle.catalogue_lib.specs.Mode.{is_mode}
 use mathlib.Core.List.{[], ◌∷◌, List}
 use seplogic.Ra.Ura.{Ura}
 use seplogic.Ra.TreeShare.{full_share}
@@ -46,14 +46,14 @@ use Rattle.libc.specs.declared.types.stat.{stat}
 use Rattle.libc.proofs.types.stat as T
 use Rattle.libc.proofs.types.stat.Laws as T'
 use Rattle.libc.proofs.fstat as fstat
-use Rattle.libc.proofs.fstat.Symbol as fstat-def
+use Rattle.libc.proofs.fstat.Symbol as fstat_def
 use Rattle.libc.proofs.fstat.Symbol.{name as #libc·fstat}
-use Rattle.libc.proofs.fstat.Met as fstat-thm
+use Rattle.libc.proofs.fstat.Met as fstat_thm
 use Rattle.bits.proofs.Lent.{lends, back}
-use Rattle.catalogue_lib.specs.contracts.file_mode.mode_in as mode-in
-use Rattle.catalogue_lib.proofs.file_mode.mode_in.Symbol as mode-in-def
-use Rattle.catalogue_lib.proofs.file_mode.mode_in.Symbol.{name as #file-mode·mode-in}
-use Rattle.catalogue_lib.proofs.file_mode.mode_in.Met as mode-in-thm
+use Rattle.catalogue_lib.specs.contracts.file_mode.mode_in as mode_in_lem
+use Rattle.catalogue_lib.proofs.file_mode.mode_in.Symbol as mode_in_def
+use Rattle.catalogue_lib.proofs.file_mode.mode_in.Symbol.{name as #file-mode·mode_in_lem}
+use Rattle.catalogue_lib.proofs.file_mode.mode_in.Met as mode_in_thm
 use Rattle.catalogue_lib.specs.contracts.file_mode.told.Key.{name as #own}
 use Rattle.catalogue_lib.specs.contracts.file_mode.told as own
 use Rattle.catalogue_lib.proofs.file_mode.told.Statement as stated
@@ -74,10 +74,10 @@ module _ {M : Type 1} {𝓤 : Ura M} (𝓛 : Logic 𝓤) (at_mem : Memory → SP
   Fstat = triple_of 𝓛 fstat.signature (fstat.spec 𝓛 at_mem run)
 
   abbrev ModeIn : Contract 𝓤
-  ModeIn = triple_of 𝓛 mode-in.signature (mode-in.spec 𝓛 at_mem run)
+  ModeIn = triple_of 𝓛 mode_in_lem.signature (mode_in_lem.spec 𝓛 at_mem run)
 
-  mode-in-says : (z : ℤ) (s : stat) (r : ℕ) → ent 𝓤 (ensured 𝓛 mode-in.ended (mode-in.clauses 𝓛 at_mem run) tt (z, (s, tt)) tt r) (fact 𝓤 (isMode r ≡ true))
-  mode-in-says z s r = ex_e 𝓤 _ (λ ws. snd∗ 𝓤 (sem 𝓛 (lasts mode-in.ended tt (z, (s, tt)) ws)) (fact 𝓤 (isMode r ≡ true)))
+  mode-in-says : (z : ℤ) (s : stat) (r : ℕ) → ent 𝓤 (ensured 𝓛 mode_in_lem.ended (mode_in_lem.clauses 𝓛 at_mem run) tt (z, (s, tt)) tt r) (fact 𝓤 (is_mode r ≡ true))
+  mode-in-says z s r = ex_e 𝓤 _ (λ ws. snd∗ 𝓤 (sem 𝓛 (lasts mode_in_lem.ended tt (z, (s, tt)) ws)) (fact 𝓤 (is_mode r ≡ true)))
 
 module _ {M : Type 1} {𝓤 : Ura M} (𝓛 : Logic 𝓤) (at_mem : Memory → SProp 𝓤) (run : Routine → Fun 𝓤) (fd : ℤ) (fd_is : Is i32 fd (sint_vals w32 fd)) (s : stat) (s-is : Is T.the_row s (vals s)) where
   open 𝓛 use {H, A}
@@ -91,7 +91,7 @@ module _ {M : Type 1} {𝓤 : Ura M} (𝓛 : Logic 𝓤) (at_mem : Memory → SP
   abbrev Post : Val → SProp 𝓤
   Post = (walk_of 𝓛 own.ended stayed (own.clauses 𝓛 at_mem run)).post ((tt, tt, tt, a, at), tt)
 
-  exits : (m : ℕ) (v : Val) → Is u32 m (v ∷ []) → isMode m ≡ true → ent 𝓤 (emp 𝓤) (Post v)
+  exits : (m : ℕ) (v : Val) → Is u32 m (v ∷ []) → is_mode m ≡ true → ent 𝓤 (emp 𝓤) (Post v)
   exits m v is e =
       qed 𝓛 [] ∵
       suffices ! _ (ends_at 𝓛 own.ended stayed (own.clauses 𝓛 at_mem run) ((tt, tt, tt, a, at), tt) v m (tt, (tt, tt)) (tt, (tt, tt))) $ says ! e $
@@ -117,7 +117,7 @@ module _ {M : Type 1} {𝓤 : Ura M} (𝓛 : Logic 𝓤) (at_mem : Memory → SP
   goes-mode-in z w r is =
       qed 𝓛 (‵ ((T.the_row).own_val r (vals r)) ∷ []) ∵ nothing ! $ move ! (1 ∷ 0 ∷ []) $ fjoin ! $ owned ! i32 (Is i32) (sint_Makes 𝓛 w32) z _ is $ fjoin ! $ nothing ! $ join ! $ nothing ! $ move ! (1 ∷ 0 ∷ []) $ join ! $ done !
 
-  module _ (C : Calls 𝓤 H) (Λ : Loops 𝓤 H) (fm : FmC 𝓤 H 𝓛.laws C) (fstat-known : Triple 𝓤 (C #libc·fstat) (Fstat 𝓛 at_mem run)) (mode-in-known : Triple 𝓤 (C #file-mode·mode-in) (ModeIn 𝓛 at_mem run)) where
+  module _ (C : Calls 𝓤 H) (Λ : Loops 𝓤 H) (fm : FmC 𝓤 H 𝓛.laws C) (fstat-known : Triple 𝓤 (C #libc·fstat) (Fstat 𝓛 at_mem run)) (mode-in-known : Triple 𝓤 (C #file-mode·mode_in_lem) (ModeIn 𝓛 at_mem run)) where
     typed : (r : stat) → Is T.the_row r (vals r) → Holds (has_ty T'.mir (val r)) × WT (val r)
     typed r is = ((LL.lawful T.the_type T'.the_laws 𝓛).typed r _ is).0
 
@@ -148,14 +148,14 @@ module _ {M : Type 1} {𝓤 : Ura M} (𝓛 : Logic 𝓤) (at_mem : Memory → SP
         assigns ! (of_opd ! (load ! (from ! (stop !)) (look ! 0 refl))) (from ! (stop !)) (init ! 4 refl (typed zs.1.0 r-is)) $
         owned ! T.the_row (Is T.the_row) (LL.makes T.the_type T'.the_plain 𝓛) zs.1.0 _ r-is $ use1 𝓛 (raw ((ModeIn 𝓛 at_mem run).pre (to-mode-in z w zs.1.0))) (goes-mode-in z w zs.1.0 z-is) $
         calls_at ! fm (ModeIn 𝓛 at_mem run) mode-in-known (to-mode-in z w zs.1.0) (and_then ! (load ! (from ! (stop !)) (look ! 9 refl)) (and_then ! (load ! (from ! (stop !)) (look ! 5 refl)) (no_more !))) (λ v.
-        use1 𝓛 (later (some (λ (m : ℕ). (‵ ftrue ⊛ ‵ (u32.own_val m (v ∷ []))) ⊛ raw (ensured 𝓛 mode-in.ended (mode-in.clauses 𝓛 at_mem run) tt (z, (zs.1.0, tt)) tt m)))) (id⊢ 𝓤 _) $ await ! tt $ pick ! (λ m.
-        split ! $ move ! (1 ∷ []) $ use1 𝓛 (raw (fact 𝓤 (isMode m ≡ true))) (mode-in-says 𝓛 at_mem run z zs.1.0 m) $ heard ! (isMode m ≡ true) (λ e. split ! $ drop ! $
+        use1 𝓛 (later (some (λ (m : ℕ). (‵ ftrue ⊛ ‵ (u32.own_val m (v ∷ []))) ⊛ raw (ensured 𝓛 mode_in_lem.ended (mode_in_lem.clauses 𝓛 at_mem run) tt (z, (zs.1.0, tt)) tt m)))) (id⊢ 𝓤 _) $ await ! tt $ pick ! (λ m.
+        split ! $ move ! (1 ∷ []) $ use1 𝓛 (raw (fact 𝓤 (is_mode m ≡ true))) (mode-in-says 𝓛 at_mem run z zs.1.0 m) $ heard ! (is_mode m ≡ true) (λ e. split ! $ drop ! $
         facts ! u32 (Is u32) (shows 𝓛 u32) m (v ∷ []) (λ m-is. land ! (from ! (stop !)) (init ! 15 refl ((uint_Lawful 𝓛 w32).typed m _ m-is).0) $
         returns ! (look ! 15 refl) $ forget ! 0 refl $ forget ! 4 refl $ forget ! 6 refl $ forget ! 8 refl $ forget ! 11 refl $ forget ! 13 refl $ forget ! 15 refl $
         move ! (15 ∷ 16 ∷ []) $ free1 ! $ move ! (13 ∷ 14 ∷ []) $ free1 ! $ move ! (11 ∷ 12 ∷ []) $ free1 ! $ move ! (0 ∷ 10 ∷ []) $ free1 ! $ move ! (7 ∷ 8 ∷ []) $ free1 ! $ move ! (5 ∷ 6 ∷ []) $ free1 ! $ move ! (3 ∷ 4 ∷ []) $ free1 ! $ free0 ! $
         keep ! [] $ by ! (exits m v m-is e)))))))))))))))))))
 
-module _ {M : Type 1} {𝓤 : Ura M} (𝓛 : Logic 𝓤) (at_mem : Memory → SProp 𝓤) (run : Routine → Fun 𝓤) (𝓣 : Tables 𝓤 𝓛.H) (fstat-known : Triple 𝓤 (𝓣.C #libc·fstat) (Fstat 𝓛 at_mem run)) (mode-in-known : Triple 𝓤 (𝓣.C #file-mode·mode-in) (ModeIn 𝓛 at_mem run)) where
+module _ {M : Type 1} {𝓤 : Ura M} (𝓛 : Logic 𝓤) (at_mem : Memory → SProp 𝓤) (run : Routine → Fun 𝓤) (𝓣 : Tables 𝓤 𝓛.H) (fstat-known : Triple 𝓤 (𝓣.C #libc·fstat) (Fstat 𝓛 at_mem run)) (mode-in-known : Triple 𝓤 (𝓣.C #file-mode·mode_in_lem) (ModeIn 𝓛 at_mem run)) where
   open 𝓛 use {H}
 
   walks : Walks 𝓛 own.ended stayed (WpFn 𝓤 H 𝓣.C 𝓣.Λ code.function) (own.clauses 𝓛 at_mem run)
@@ -174,5 +174,5 @@ told-spec 𝓤 𝓛 𝓜 𝓡 =
     entered 𝓤 𝓛.H (triple_of 𝓛 own.signature (own.spec 𝓛 𝓜.mem 𝓡.run))
     (tables 𝓤 𝓛.H 𝓜 𝓡 code.env).C (tables 𝓤 𝓛.H 𝓜 𝓡 code.env).Λ #own code.function (code.unfolded 𝓤 𝓛.H 𝓜 𝓡)
     (meets 𝓛 𝓜.mem 𝓡.run (tables_of 𝓤 𝓛.H 𝓜 (tables 𝓤 𝓛.H 𝓜 𝓡 code.env))
-    (cited 𝓤 𝓛.H (Fstat 𝓛 𝓜.mem 𝓡.run) 𝓜 𝓡 code.env #libc·fstat fstat-def.routine code.calls-libc::fstat (fstat-thm.met 𝓤 𝓛 𝓜 𝓡))
-    (cited 𝓤 𝓛.H (ModeIn 𝓛 𝓜.mem 𝓡.run) 𝓜 𝓡 code.env #file-mode·mode-in mode-in-def.routine code.calls-catalogue-lib::file-mode::mode-in (mode-in-thm.met 𝓤 𝓛 𝓜 𝓡)))
+    (cited 𝓤 𝓛.H (Fstat 𝓛 𝓜.mem 𝓡.run) 𝓜 𝓡 code.env #libc·fstat fstat_def.routine code.calls-libc::fstat (fstat_thm.met 𝓤 𝓛 𝓜 𝓡))
+    (cited 𝓤 𝓛.H (ModeIn 𝓛 𝓜.mem 𝓡.run) 𝓜 𝓡 code.env #file-mode·mode_in_lem mode_in_def.routine code.calls-catalogue-lib::file-mode::mode_in_lem (mode_in_thm.met 𝓤 𝓛 𝓜 𝓡)))

@@ -2,8 +2,8 @@
 -- Assumes nothing.
 use mathlib.Core.Path.{sym, ap, ap₂, ◌∙◌}
 use mathlib.Core.Bool.{◌||◌}
-use Rattle.catalogue_rules.specs.Lookup.{inMain}
-use Rattle.catalogue_rules.proofs.Ways.{both-room, way-none, way-crowded, way_twice, way-found}
+use Rattle.catalogue_rules.specs.Lookup.{in_main}
+use Rattle.catalogue_rules.proofs.Ways.{both-room, way_none, way_crowded, way_twice, way_found}
 use borrow.Author.Rules.{rules}
 use Rattle.catalogue_lookup.proofs.tests.in_main.Statement.{statement}
 use Rattle.catalogue_lookup.proofs.tests.in_main.Tie as tie
@@ -15,7 +15,7 @@ enum-known-found-2 : tie.Need-enum-known-found-2
 enum-known-found-2 c = search rules
 
 returns : tie.Need-returns
-returns c = ap inMain (way-crowded _ _ c.before.before.found2.given.1 (both-room c.before.before.before.before.before.before.args.cards c.before.before.before.before.before.before.args.others _ c.if1.true))
+returns c = ap in_main (way_crowded _ _ c.before.before.found2.given.1 (both-room c.before.before.before.before.before.before.args.cards c.before.before.before.before.before.before.args.others _ c.if1.true))
 
 twice-requires : tie.Need-twice-requires
 twice-requires c κs = search rules
@@ -24,13 +24,13 @@ twice-requires-2 : tie.Need-twice-requires-2
 twice-requires-2 c κs = search rules
 
 returns-2 : tie.Need-returns-2
-returns-2 c = ap inMain (way_twice _ _ c.before.before.before.before.before.found2.given.1 (both-room c.before.before.before.before.before.before.before.before.before.args.cards c.before.before.before.before.before.before.before.before.before.args.others _ c.before.before.before.if1.false) (sym (ap₂ ◌||◌ c.before.before.twice.ensures c.before.twice2.ensures) ∙ c.if2.true))
+returns-2 c = ap in_main (way_twice _ _ c.before.before.before.before.before.found2.given.1 (both-room c.before.before.before.before.before.before.before.before.before.args.cards c.before.before.before.before.before.before.before.before.before.args.others _ c.before.before.before.if1.false) (sym (ap₂ ◌||◌ c.before.before.twice.ensures c.before.twice2.ensures) ∙ c.if2.true))
 
 returns-3 : tie.Need-returns-3
-returns-3 c = ap inMain (way-none _ _ c.before.found.given.1)
+returns-3 c = ap in_main (way_none _ _ c.before.found.given.1)
 
 returns-4 : tie.Need-returns-4
-returns-4 c = ap inMain (way-found _ _ c.before.before.before.before.before.found2.given.1 (both-room c.before.before.before.before.before.before.before.before.before.args.cards c.before.before.before.before.before.before.before.before.before.args.others _ c.before.before.before.if1.false) (sym (ap₂ ◌||◌ c.before.before.twice.ensures c.before.twice2.ensures) ∙ c.if2.false))
+returns-4 c = ap in_main (way_found _ _ c.before.before.before.before.before.found2.given.1 (both-room c.before.before.before.before.before.before.before.before.before.args.cards c.before.before.before.before.before.before.before.before.before.args.others _ c.before.before.before.if1.false) (sym (ap₂ ◌||◌ c.before.before.twice.ensures c.before.twice2.ensures) ∙ c.if2.false))
 
 pub in-main-spec : {M : Type 1} → statement M
 in-main-spec =

@@ -9,14 +9,14 @@ use Rattle.refusal.specs.declared.Refusal.TheVariants.{NoSuchCard}
 use Rattle.catalogue_rules.specs.Field.{fields_of}
 use Rattle.catalogue_rules.proofs.At.{stands, stops}
 use Rattle.catalogue_rules.specs.declared.Place.TheVariants.{Refused}
-use Rattle.catalogue_rules.specs.Lookup.{spotsFrom, lastSpot}
+use Rattle.catalogue_rules.specs.Lookup.{spots_from, last_spot}
 use Rattle.catalogue_rules.proofs.Spots.{any-number, newest-on, newest-end, newest-none}
 use borrow.Author.Rules.{rules}
 use Rattle.catalogue_lookup.proofs.walk.newest.Statement.{statement}
 use Rattle.catalogue_lookup.proofs.walk.newest.Tie as tie
 
 abbrev invariant-loop : tie.invariant-loop
-invariant-loop file from best₀ at₀ best at = (n : ℕ) → lastSpot best (spotsFrom at n (fields_of (drop at file))) ≡ lastSpot (Refused NoSuchCard) (spotsFrom from 0 (fields_of (drop from file)))
+invariant-loop file from best₀ at₀ best at = (n : ℕ) → last_spot best (spots_from at n (fields_of (drop at file))) ≡ last_spot (Refused NoSuchCard) (spots_from from 0 (fields_of (drop from file)))
 
 abbrev decreases-loop : tie.decreases-loop
 decreases-loop file from best₀ at₀ best at = length file - at
@@ -46,7 +46,7 @@ add_at : tie.Need-overflow-add-at invariant-loop decreases-loop
 add_at c = omega (arith, (stands {file = c.before.before.before.before.before.before.before.before.args.file.now} {at = c.before.before.before.before.before.before.loop.at} (sym c.before.before.before.tag.given.1 ∙ c.before.before.before.before.before.field_at.ensures)).fits)
 
 loop-less : tie.Need-loop-smaller invariant-loop decreases-loop
-loop-less c = omega (arith, (stands {file = c.before.before.before.before.before.before.before.before.args.file.now} {at = c.before.before.before.before.before.before.loop.at} (sym c.before.before.before.tag.given.1 ∙ c.before.before.before.before.before.field_at.ensures)).fits, (stands {file = c.before.before.before.before.before.before.before.before.args.file.now} {at = c.before.before.before.before.before.before.loop.at} (sym c.before.before.before.tag.given.1 ∙ c.before.before.before.before.before.field_at.ensures)).behindHead)
+loop-less c = omega (arith, (stands {file = c.before.before.before.before.before.before.before.before.args.file.now} {at = c.before.before.before.before.before.before.loop.at} (sym c.before.before.before.tag.given.1 ∙ c.before.before.before.before.before.field_at.ensures)).fits, (stands {file = c.before.before.before.before.before.before.before.before.args.file.now} {at = c.before.before.before.before.before.before.loop.at} (sym c.before.before.before.tag.given.1 ∙ c.before.before.before.before.before.field_at.ensures)).behind_head)
 
 loop-again : tie.Need-loop-preserved invariant-loop decreases-loop
 loop-again c = newest-on c.before.before.before.before.before.before.before.before.args.file.now c.before.before.before.before.before.before.loop.at (stands {file = c.before.before.before.before.before.before.before.before.args.file.now} {at = c.before.before.before.before.before.before.loop.at} (sym c.before.before.before.tag.given.1 ∙ c.before.before.before.before.before.field_at.ensures)) c.before.before.before.before.before.before.loop.best _ c.before.before.before.before.before.before.loop.invariant c.before.if1.false _ c.newer.ensures

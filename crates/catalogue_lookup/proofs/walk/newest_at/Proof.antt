@@ -3,8 +3,8 @@
 use mathlib.Core.Path.{sym, ap, ◌∙◌}
 use Rattle.refusal.specs.declared.Refusal.TheVariants.{NoSuchCard}
 use Rattle.catalogue_rules.specs.declared.Place.TheVariants.{Refused}
-use Rattle.catalogue_rules.specs.Lookup.{lastSpot}
-use Rattle.catalogue_lookup.proofs.Behind.{spots-behind}
+use Rattle.catalogue_rules.specs.Lookup.{last_spot}
+use Rattle.catalogue_lookup.proofs.Behind.{spots_behind_lem}
 use borrow.Author.Rules.{rules}
 use Rattle.catalogue_lookup.proofs.walk.newest_at.Statement.{statement}
 use Rattle.catalogue_lookup.proofs.walk.newest_at.Tie as tie
@@ -22,11 +22,11 @@ newest-requires : tie.Need-newest-requires
 newest-requires c κs = search rules
 
 returns : tie.Need-returns
-unfolding lastSpot
-returns c = ap (lastSpot (Refused NoSuchCard)) (spots-behind c.before.before.before.before.args.address c.before.before.before.before.args.file.now (sym c.enum_told.given.1 ∙ c.before.before.card-place.ensures))
+unfolding last_spot
+returns c = ap (last_spot (Refused NoSuchCard)) (spots_behind_lem c.before.before.before.before.args.address c.before.before.before.before.args.file.now (sym c.enum_told.given.1 ∙ c.before.before.card-place.ensures))
 
 returns-2 : tie.Need-returns-2
-returns-2 c = c.newest.ensures ∙ ap (lastSpot (Refused NoSuchCard)) (spots-behind c.before.before.before.before.before.before.args.address c.before.before.before.before.before.before.args.file.now (sym c.before.before.at.given.1 ∙ c.before.before.before.before.card-place.ensures))
+returns-2 c = c.newest.ensures ∙ ap (last_spot (Refused NoSuchCard)) (spots_behind_lem c.before.before.before.before.before.before.args.address c.before.before.before.before.before.before.args.file.now (sym c.before.before.at.given.1 ∙ c.before.before.before.before.card-place.ensures))
 
 pub newest-at-spec : {M : Type 1} → statement M
 newest-at-spec =

@@ -7,14 +7,14 @@ use mathlib.Core.Path.{◌≡◌, sym, ◌∙◌}
 use lib.ListN.{length, drop}
 use Rattle.catalogue_rules.specs.Field.{fields_of}
 use Rattle.catalogue_rules.proofs.At.{stands, stops}
-use Rattle.catalogue_rules.specs.Lookup.{spotsFrom, numberedSpot}
+use Rattle.catalogue_rules.specs.Lookup.{spots_from, numbered_spot}
 use Rattle.catalogue_rules.proofs.Spots.{numbered-none, numbered-end, numbered-hit, numbered-on}
 use borrow.Author.Rules.{rules}
 use Rattle.catalogue_lookup.proofs.walk.numbered.Statement.{statement}
 use Rattle.catalogue_lookup.proofs.walk.numbered.Tie as tie
 
 abbrev invariant-loop : tie.invariant-loop
-invariant-loop file from number told₀ at₀ told at = numberedSpot number (spotsFrom at told (fields_of (drop at file))) ≡ numberedSpot number (spotsFrom from 0 (fields_of (drop from file)))
+invariant-loop file from number told₀ at₀ told at = numbered_spot number (spots_from at told (fields_of (drop at file))) ≡ numbered_spot number (spots_from from 0 (fields_of (drop from file)))
 
 abbrev decreases-loop : tie.decreases-loop
 decreases-loop file from number told₀ at₀ told at = length file - at
@@ -47,7 +47,7 @@ add_at : tie.Need-overflow-add-at invariant-loop decreases-loop
 add_at c = omega (arith, (stands {file = c.before.before.before.before.before.before.before.before.before.args.file.now} {at = c.before.before.before.before.before.before.before.loop.at} (sym c.before.before.before.before.tag.given.1 ∙ c.before.before.before.before.before.before.field_at.ensures)).fits)
 
 loop-less : tie.Need-loop-smaller invariant-loop decreases-loop
-loop-less c = omega (arith, (stands {file = c.before.before.before.before.before.before.before.before.before.args.file.now} {at = c.before.before.before.before.before.before.before.loop.at} (sym c.before.before.before.before.tag.given.1 ∙ c.before.before.before.before.before.before.field_at.ensures)).fits, (stands {file = c.before.before.before.before.before.before.before.before.before.args.file.now} {at = c.before.before.before.before.before.before.before.loop.at} (sym c.before.before.before.before.tag.given.1 ∙ c.before.before.before.before.before.before.field_at.ensures)).behindHead)
+loop-less c = omega (arith, (stands {file = c.before.before.before.before.before.before.before.before.before.args.file.now} {at = c.before.before.before.before.before.before.before.loop.at} (sym c.before.before.before.before.tag.given.1 ∙ c.before.before.before.before.before.before.field_at.ensures)).fits, (stands {file = c.before.before.before.before.before.before.before.before.before.args.file.now} {at = c.before.before.before.before.before.before.before.loop.at} (sym c.before.before.before.before.tag.given.1 ∙ c.before.before.before.before.before.before.field_at.ensures)).behind_head)
 
 loop-again : tie.Need-loop-preserved invariant-loop decreases-loop
 loop-again c = numbered-on c.before.before.before.before.before.before.before.before.before.args.file.now c.before.before.before.before.before.before.before.loop.at (stands {file = c.before.before.before.before.before.before.before.before.before.args.file.now} {at = c.before.before.before.before.before.before.before.loop.at} (sym c.before.before.before.before.tag.given.1 ∙ c.before.before.before.before.before.before.field_at.ensures)) c.before.before.before.before.before.before.before.loop.told c.before.before.before.before.before.before.before.before.before.args.number _ c.before.before.before.before.before.before.before.loop.invariant c.before.before.if1.false c.before.if2.false _ c.due.ensures

@@ -1,8 +1,8 @@
 -- `walk::numbered_at` meets its contract: the version behind the card that was found.
 -- Assumes nothing.
 use mathlib.Core.Path.{sym, ap, ◌∙◌}
-use Rattle.catalogue_rules.specs.Lookup.{numberedSpot}
-use Rattle.catalogue_lookup.proofs.Behind.{spots-behind}
+use Rattle.catalogue_rules.specs.Lookup.{numbered_spot}
+use Rattle.catalogue_lookup.proofs.Behind.{spots_behind_lem}
 use borrow.Author.Rules.{rules}
 use Rattle.catalogue_lookup.proofs.walk.numbered_at.Statement.{statement}
 use Rattle.catalogue_lookup.proofs.walk.numbered_at.Tie as tie
@@ -20,11 +20,11 @@ numbered-requires : tie.Need-numbered-requires
 numbered-requires c κs = search rules
 
 returns : tie.Need-returns
-unfolding numberedSpot
-returns c = ap (numberedSpot c.before.before.before.before.args.number) (spots-behind c.before.before.before.before.args.address c.before.before.before.before.args.file.now (sym c.enum_told.given.1 ∙ c.before.before.card-place.ensures))
+unfolding numbered_spot
+returns c = ap (numbered_spot c.before.before.before.before.args.number) (spots_behind_lem c.before.before.before.before.args.address c.before.before.before.before.args.file.now (sym c.enum_told.given.1 ∙ c.before.before.card-place.ensures))
 
 returns-2 : tie.Need-returns-2
-returns-2 c = c.numbered.ensures ∙ ap (numberedSpot c.before.before.before.before.before.before.args.number) (spots-behind c.before.before.before.before.before.before.args.address c.before.before.before.before.before.before.args.file.now (sym c.before.before.at.given.1 ∙ c.before.before.before.before.card-place.ensures))
+returns-2 c = c.numbered.ensures ∙ ap (numbered_spot c.before.before.before.before.before.before.args.number) (spots_behind_lem c.before.before.before.before.before.before.args.address c.before.before.before.before.before.before.args.file.now (sym c.before.before.at.given.1 ∙ c.before.before.before.before.card-place.ensures))
 
 pub numbered-at-spec : {M : Type 1} → statement M
 numbered-at-spec =

@@ -7,14 +7,14 @@ use mathlib.Core.Path.{◌≡◌, refl, sym, ◌∙◌}
 use lib.ListN.{length, drop}
 use Rattle.catalogue_rules.specs.Field.{fields_of}
 use Rattle.catalogue_rules.proofs.At.{stands, stops}
-use Rattle.catalogue_put.specs.Places.{cardEnd}
-use Rattle.catalogue_put.proofs.Passed.{isEnd, end_empty, end-next, place_none, place-stop, place-on}
+use Rattle.catalogue_put.specs.Places.{card_end}
+use Rattle.catalogue_put.proofs.Passed.{is_end, end_empty, end-next, place_none, place_stop, place-on}
 use borrow.Author.Rules.{rules}
 use Rattle.catalogue_put.proofs.places.card_end.Statement.{statement}
 use Rattle.catalogue_put.proofs.places.card_end.Tie as tie
 
 abbrev invariant-loop : tie.invariant-loop
-invariant-loop file from at₀ at = at + cardEnd (fields_of (drop at file)) ≡ from + cardEnd (fields_of (drop from file))
+invariant-loop file from at₀ at = at + card_end (fields_of (drop at file)) ≡ from + card_end (fields_of (drop from file))
 
 abbrev decreases-loop : tie.decreases-loop
 decreases-loop file from at₀ at = length file - at
@@ -29,22 +29,22 @@ enum_told : tie.Need-enum-told invariant-loop decreases-loop
 enum_told c = search rules
 
 returns : tie.Need-returns invariant-loop decreases-loop
-returns c = place_none cardEnd isEnd end_empty end-next c.before.before.before.before.before.args.file.now c.before.before.before.loop.at _ c.before.before.before.loop.invariant (stops {file = c.before.before.before.before.before.args.file.now} {at = c.before.before.before.loop.at} (sym c.enum_told.given.1 ∙ c.before.before.field_at.ensures)).none
+returns c = place_none card_end is_end end_empty end-next c.before.before.before.before.before.args.file.now c.before.before.before.loop.at _ c.before.before.before.loop.invariant (stops {file = c.before.before.before.before.before.args.file.now} {at = c.before.before.before.loop.at} (sym c.enum_told.given.1 ∙ c.before.before.field_at.ensures)).none
 
 enum-known-tag : tie.Need-enum-known-tag invariant-loop decreases-loop
 enum-known-tag c = search rules
 
 returns-2 : tie.Need-returns-2 invariant-loop decreases-loop
-returns-2 c = place-stop cardEnd isEnd end_empty end-next c.before.before.before.before.before.before.before.args.file.now c.before.before.before.before.before.loop.at _ c.before.before.before.before.before.loop.invariant (stands {file = c.before.before.before.before.before.before.before.args.file.now} {at = c.before.before.before.before.before.loop.at} (sym c.before.before.tag.given.1 ∙ c.before.before.before.before.field_at.ensures)) c.if1.true
+returns-2 c = place_stop card_end is_end end_empty end-next c.before.before.before.before.before.before.before.args.file.now c.before.before.before.before.before.loop.at _ c.before.before.before.before.before.loop.invariant (stands {file = c.before.before.before.before.before.before.before.args.file.now} {at = c.before.before.before.before.before.loop.at} (sym c.before.before.tag.given.1 ∙ c.before.before.before.before.field_at.ensures)) c.if1.true
 
 add_at : tie.Need-overflow-add-at invariant-loop decreases-loop
 add_at c = omega (arith, (stands {file = c.before.before.before.before.before.before.before.args.file.now} {at = c.before.before.before.before.before.loop.at} (sym c.before.before.tag.given.1 ∙ c.before.before.before.before.field_at.ensures)).fits)
 
 loop-less : tie.Need-loop-smaller invariant-loop decreases-loop
-loop-less c = omega (arith, (stands {file = c.before.before.before.before.before.before.before.args.file.now} {at = c.before.before.before.before.before.loop.at} (sym c.before.before.tag.given.1 ∙ c.before.before.before.before.field_at.ensures)).fits, (stands {file = c.before.before.before.before.before.before.before.args.file.now} {at = c.before.before.before.before.before.loop.at} (sym c.before.before.tag.given.1 ∙ c.before.before.before.before.field_at.ensures)).behindHead)
+loop-less c = omega (arith, (stands {file = c.before.before.before.before.before.before.before.args.file.now} {at = c.before.before.before.before.before.loop.at} (sym c.before.before.tag.given.1 ∙ c.before.before.before.before.field_at.ensures)).fits, (stands {file = c.before.before.before.before.before.before.before.args.file.now} {at = c.before.before.before.before.before.loop.at} (sym c.before.before.tag.given.1 ∙ c.before.before.before.before.field_at.ensures)).behind_head)
 
 loop-again : tie.Need-loop-preserved invariant-loop decreases-loop
-loop-again c = place-on cardEnd isEnd end_empty end-next c.before.before.before.before.before.before.before.args.file.now c.before.before.before.before.before.loop.at _ c.before.before.before.before.before.loop.invariant (stands {file = c.before.before.before.before.before.before.before.args.file.now} {at = c.before.before.before.before.before.loop.at} (sym c.before.before.tag.given.1 ∙ c.before.before.before.before.field_at.ensures)) c.if1.false
+loop-again c = place-on card_end is_end end_empty end-next c.before.before.before.before.before.before.before.args.file.now c.before.before.before.before.before.loop.at _ c.before.before.before.before.before.loop.invariant (stands {file = c.before.before.before.before.before.before.before.args.file.now} {at = c.before.before.before.before.before.loop.at} (sym c.before.before.tag.given.1 ∙ c.before.before.before.before.field_at.ensures)) c.if1.false
 
 pub card-end-spec : {M : Type 1} → statement M
 card-end-spec =

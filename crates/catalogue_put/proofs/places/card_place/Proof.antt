@@ -7,23 +7,23 @@ use mathlib.Core.Path.{◌≡◌, sym, ap, ◌∙◌}
 use lib.ListN.{length, drop}
 use Rattle.catalogue_rules.specs.Field.{fields_of}
 use Rattle.catalogue_rules.proofs.At.{stands, stops}
-use Rattle.catalogue_rules.specs.Reading.{addressesOf, isAmong}
-use Rattle.catalogue_put.specs.Places.{cardPlace, seekIf}
-use Rattle.catalogue_put.proofs.Passed.{from_zero, card-nowhere, card-here, card-later}
+use Rattle.catalogue_rules.specs.Reading.{addresses_of, is_among}
+use Rattle.catalogue_put.specs.Places.{card_place, seek_if}
+use Rattle.catalogue_put.proofs.Passed.{from_zero, card_nowhere, card-here, card-later}
 use borrow.Author.Rules.{rules}
 use Rattle.catalogue_put.proofs.places.card_place.Statement.{statement}
 use Rattle.catalogue_put.proofs.places.card_place.Tie as tie
 
 abbrev invariant-loop : tie.invariant-loop
 invariant-loop file address at₀ at =
-    seekIf (isAmong address (addressesOf (fields_of (drop at file)))) (at + cardPlace address (fields_of (drop at file)))
-    ≡ seekIf (isAmong address (addressesOf (fields_of file))) (cardPlace address (fields_of file))
+    seek_if (is_among address (addresses_of (fields_of (drop at file)))) (at + card_place address (fields_of (drop at file)))
+    ≡ seek_if (is_among address (addresses_of (fields_of file))) (card_place address (fields_of file))
 
 abbrev decreases-loop : tie.decreases-loop
 decreases-loop file address at₀ at = length file - at
 
 loop-holds : tie.Need-loop-init invariant-loop decreases-loop
-loop-holds c = ap (seekIf (isAmong c.before.args.address (addressesOf (fields_of c.before.args.file.now)))) (from_zero _)
+loop-holds c = ap (seek_if (is_among c.before.args.address (addresses_of (fields_of c.before.args.file.now)))) (from_zero _)
 
 field-at-requires : tie.Need-field-at-requires invariant-loop decreases-loop
 field-at-requires c κs = search rules
@@ -32,7 +32,7 @@ enum_told : tie.Need-enum-told invariant-loop decreases-loop
 enum_told c = search rules
 
 returns : tie.Need-returns invariant-loop decreases-loop
-returns c = card-nowhere c.before.before.before.before.before.args.address c.before.before.before.loop.at (drop c.before.before.before.loop.at c.before.before.before.before.before.args.file.now) _ (stops {file = c.before.before.before.before.before.args.file.now} {at = c.before.before.before.loop.at} (sym c.enum_told.given.1 ∙ c.before.before.field_at.ensures)).none c.before.before.before.loop.invariant
+returns c = card_nowhere c.before.before.before.before.before.args.address c.before.before.before.loop.at (drop c.before.before.before.loop.at c.before.before.before.before.before.args.file.now) _ (stops {file = c.before.before.before.before.before.args.file.now} {at = c.before.before.before.loop.at} (sym c.enum_told.given.1 ∙ c.before.before.field_at.ensures)).none c.before.before.before.loop.invariant
 
 enum-known-tag : tie.Need-enum-known-tag invariant-loop decreases-loop
 enum-known-tag c = search rules
@@ -47,7 +47,7 @@ returns-2 : tie.Need-returns-2 invariant-loop decreases-loop
 returns-2 c = card-here c.before.before.before.before.before.before.before.before.args.address c.before.before.before.before.before.before.before.before.args.file.now c.before.before.before.before.before.before.loop.at _ c.before.before.before.before.before.before.loop.invariant (stands {file = c.before.before.before.before.before.before.before.before.args.file.now} {at = c.before.before.before.before.before.before.loop.at} (sym c.before.before.before.tag.given.1 ∙ c.before.before.before.before.before.field_at.ensures)) c.before.is_Address.ensures c.if1.true
 
 loop-less : tie.Need-loop-smaller invariant-loop decreases-loop
-loop-less c = omega (arith, (stands {file = c.before.before.before.before.before.before.before.before.args.file.now} {at = c.before.before.before.before.before.before.loop.at} (sym c.before.before.before.tag.given.1 ∙ c.before.before.before.before.before.field_at.ensures)).fits, (stands {file = c.before.before.before.before.before.before.before.before.args.file.now} {at = c.before.before.before.before.before.before.loop.at} (sym c.before.before.before.tag.given.1 ∙ c.before.before.before.before.before.field_at.ensures)).behindHead)
+loop-less c = omega (arith, (stands {file = c.before.before.before.before.before.before.before.before.args.file.now} {at = c.before.before.before.before.before.before.loop.at} (sym c.before.before.before.tag.given.1 ∙ c.before.before.before.before.before.field_at.ensures)).fits, (stands {file = c.before.before.before.before.before.before.before.before.args.file.now} {at = c.before.before.before.before.before.before.loop.at} (sym c.before.before.before.tag.given.1 ∙ c.before.before.before.before.before.field_at.ensures)).behind_head)
 
 loop-again : tie.Need-loop-preserved invariant-loop decreases-loop
 loop-again c = card-later c.before.before.before.before.before.before.before.before.args.address c.before.before.before.before.before.before.before.before.args.file.now c.before.before.before.before.before.before.loop.at _ c.before.before.before.before.before.before.loop.invariant (stands {file = c.before.before.before.before.before.before.before.before.args.file.now} {at = c.before.before.before.before.before.before.loop.at} (sym c.before.before.before.tag.given.1 ∙ c.before.before.before.before.before.field_at.ensures)) c.before.is_Address.ensures c.if1.false

@@ -7,16 +7,16 @@ use mathlib.Core.Path.{◌≡◌, sym, ◌∙◌}
 use lib.ListN.{length, drop}
 use Rattle.catalogue_rules.specs.Field.{fields_of}
 use Rattle.catalogue_rules.proofs.At.{stands, stops}
-use Rattle.catalogue_rules.specs.Cards.{versionsFrom}
-use Rattle.catalogue_rules.specs.Edit.{latestNumber}
-use Rattle.catalogue_rules.proofs.Versions.{latestFrom, latest-any}
+use Rattle.catalogue_rules.specs.Cards.{versions_from}
+use Rattle.catalogue_rules.specs.Edit.{latest_number}
+use Rattle.catalogue_rules.proofs.Versions.{latest_from, latest-any}
 use Rattle.catalogue_put.proofs.Counted.{last_none, last_end, last_on}
 use borrow.Author.Rules.{rules}
 use Rattle.catalogue_put.proofs.places.last_number.Statement.{statement}
 use Rattle.catalogue_put.proofs.places.last_number.Tie as tie
 
 abbrev invariant-loop : tie.invariant-loop
-invariant-loop file from at₀ told₀ last₀ at told last = latestFrom last (versionsFrom told (fields_of (drop at file))) ≡ latestNumber (versionsFrom 0 (fields_of (drop from file)))
+invariant-loop file from at₀ told₀ last₀ at told last = latest_from last (versions_from told (fields_of (drop at file))) ≡ latest_number (versions_from 0 (fields_of (drop from file)))
 
 abbrev decreases-loop : tie.decreases-loop
 decreases-loop file from at₀ told₀ last₀ at told last = length file - at
@@ -52,7 +52,7 @@ add_at : tie.Need-overflow-add-at invariant-loop decreases-loop
 add_at c = omega (arith, (stands {file = c.before.before.before.before.before.before.before.before.before.before.args.file.now} {at = c.before.before.before.before.before.before.before.before.loop.at} (sym c.before.before.before.before.before.tag.given.1 ∙ c.before.before.before.before.before.before.before.field_at.ensures)).fits)
 
 loop-less : tie.Need-loop-smaller invariant-loop decreases-loop
-loop-less c = omega (arith, (stands {file = c.before.before.before.before.before.before.before.before.before.before.args.file.now} {at = c.before.before.before.before.before.before.before.before.loop.at} (sym c.before.before.before.before.before.tag.given.1 ∙ c.before.before.before.before.before.before.before.field_at.ensures)).fits, (stands {file = c.before.before.before.before.before.before.before.before.before.before.args.file.now} {at = c.before.before.before.before.before.before.before.before.loop.at} (sym c.before.before.before.before.before.tag.given.1 ∙ c.before.before.before.before.before.before.before.field_at.ensures)).behindHead)
+loop-less c = omega (arith, (stands {file = c.before.before.before.before.before.before.before.before.before.before.args.file.now} {at = c.before.before.before.before.before.before.before.before.loop.at} (sym c.before.before.before.before.before.tag.given.1 ∙ c.before.before.before.before.before.before.before.field_at.ensures)).fits, (stands {file = c.before.before.before.before.before.before.before.before.before.before.args.file.now} {at = c.before.before.before.before.before.before.before.before.loop.at} (sym c.before.before.before.before.before.tag.given.1 ∙ c.before.before.before.before.before.before.before.field_at.ensures)).behind_head)
 
 loop-again : tie.Need-loop-preserved invariant-loop decreases-loop
 loop-again c = last_on c.before.before.before.before.before.before.before.before.before.before.args.file.now c.before.before.before.before.before.before.before.before.loop.at (stands {file = c.before.before.before.before.before.before.before.before.before.before.args.file.now} {at = c.before.before.before.before.before.before.before.before.loop.at} (sym c.before.before.before.before.before.tag.given.1 ∙ c.before.before.before.before.before.before.before.field_at.ensures)) c.before.before.before.before.before.before.before.before.loop.told c.before.before.before.before.before.before.before.before.loop.last _ c.before.before.before.before.before.before.before.before.loop.invariant c.before.before.before.if1.false c.before.before.either.ensures c.before.value-number.ensures c.either2.ensures

@@ -1,16 +1,16 @@
 -- `fields::field_at` meets its contract: the code's tests, in places of the file, are the definition's on the bytes from there on.
 -- Assumes nothing.
 use native.Mathlib.Omega.{arith}
-use Rattle.catalogue_rules.proofs.At.{cut-head, cut-value, found-whole}
+use Rattle.catalogue_rules.proofs.At.{cut_head, cut_value, found-whole}
 use borrow.Author.Rules.{rules}
 use Rattle.catalogue_read.proofs.fields.field_at.Statement.{statement}
 use Rattle.catalogue_read.proofs.fields.field_at.Tie as tie
 
 returns : tie.Need-returns
-returns c = cut-head c.before.before.args.file.now c.before.before.args.at (omega arith)
+returns c = cut_head c.before.before.args.file.now c.before.before.args.at (omega arith)
 
 returns-2 : tie.Need-returns-2
-returns-2 c = cut-head c.before.before.before.args.file.now c.before.before.before.args.at (omega arith)
+returns-2 c = cut_head c.before.before.before.args.file.now c.before.before.before.args.at (omega arith)
 
 add_start : tie.Need-overflow-add-start
 add_start c = search rules
@@ -38,7 +38,7 @@ sub-if3 c = search rules
 
 returns-3 : tie.Need-returns-3
 returns-3 c =
-    cut-value c.before.before.before.before.before.before.before.args.file.now c.before.before.before.before.before.before.before.args.at c.before.before.byte-at2.ensures c.before.before.before.byte-at.ensures c.before.pair.ensures (omega arith) c.if3.true
+    cut_value c.before.before.before.before.before.before.before.args.file.now c.before.before.before.before.before.before.before.args.at c.before.before.byte-at2.ensures c.before.before.before.byte-at.ensures c.before.pair.ensures (omega arith) c.if3.true
 
 byte-at-requires-3 : tie.Need-byte-at-requires-3
 byte-at-requires-3 c κs = search rules

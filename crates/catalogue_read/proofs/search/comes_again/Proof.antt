@@ -4,7 +4,7 @@ use mathlib.Core.Path.{refl, sym, ap, ◌∙◌}
 use mathlib.Core.Bool.{Bool}
 use borrow.Author.Rules.{rules}
 use borrow.Author.Tests.{eq-eqb, ne_eqb}
-use Rattle.catalogue_rules.specs.Reading.{isAmong}
+use Rattle.catalogue_rules.specs.Reading.{is_among}
 use Rattle.catalogue_rules.proofs.Bools.{and_no, and_yes}
 use Rattle.catalogue_read.proofs.search.comes_again.Statement.{statement}
 use Rattle.catalogue_read.proofs.search.comes_again.Tie as tie

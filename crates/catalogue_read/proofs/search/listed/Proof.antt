@@ -7,14 +7,14 @@ use mathlib.Core.Path.{◌≡◌, sym, ◌∙◌}
 use lib.ListN.{length, drop}
 use Rattle.catalogue_rules.specs.Field.{fields_of}
 use Rattle.catalogue_rules.proofs.At.{stands, stops}
-use Rattle.catalogue_rules.specs.Reading.{addressesOf, isAmong}
-use Rattle.catalogue_rules.proofs.Seen.{among-hit, among-on, among_none}
+use Rattle.catalogue_rules.specs.Reading.{addresses_of, is_among}
+use Rattle.catalogue_rules.proofs.Seen.{among_hit, among_on, among_none}
 use borrow.Author.Rules.{rules}
 use Rattle.catalogue_read.proofs.search.listed.Statement.{statement}
 use Rattle.catalogue_read.proofs.search.listed.Tie as tie
 
 abbrev invariant-loop : tie.invariant-loop
-invariant-loop file from address at₀ at = isAmong address (addressesOf (fields_of (drop at file))) ≡ isAmong address (addressesOf (fields_of (drop from file)))
+invariant-loop file from address at₀ at = is_among address (addresses_of (fields_of (drop at file))) ≡ is_among address (addresses_of (fields_of (drop from file)))
 
 abbrev decreases-loop : tie.decreases-loop
 decreases-loop file from address at₀ at = length file - at
@@ -38,16 +38,16 @@ is-address-requires : tie.Need-is-address-requires invariant-loop decreases-loop
 is-address-requires c κs = search rules
 
 returns-2 : tie.Need-returns-2 invariant-loop decreases-loop
-returns-2 c = among-hit (drop c.before.before.before.before.before.before.loop.at c.before.before.before.before.before.before.before.before.args.file.now) _ _ _ (stands {file = c.before.before.before.before.before.before.before.before.args.file.now} {at = c.before.before.before.before.before.before.loop.at} (sym c.before.before.before.tag.given.1 ∙ c.before.before.before.before.before.field_at.ensures)).isFirst c.before.before.before.before.before.before.before.before.args.address c.before.is_Address.ensures c.before.before.before.before.before.before.loop.invariant c.if1.true
+returns-2 c = among_hit (drop c.before.before.before.before.before.before.loop.at c.before.before.before.before.before.before.before.before.args.file.now) _ _ _ (stands {file = c.before.before.before.before.before.before.before.before.args.file.now} {at = c.before.before.before.before.before.before.loop.at} (sym c.before.before.before.tag.given.1 ∙ c.before.before.before.before.before.field_at.ensures)).is_first c.before.before.before.before.before.before.before.before.args.address c.before.is_Address.ensures c.before.before.before.before.before.before.loop.invariant c.if1.true
 
 add_at : tie.Need-overflow-add-at invariant-loop decreases-loop
 add_at c = omega (arith, (stands {file = c.before.before.before.before.before.before.before.before.args.file.now} {at = c.before.before.before.before.before.before.loop.at} (sym c.before.before.before.tag.given.1 ∙ c.before.before.before.before.before.field_at.ensures)).fits)
 
 loop-less : tie.Need-loop-smaller invariant-loop decreases-loop
-loop-less c = omega (arith, (stands {file = c.before.before.before.before.before.before.before.before.args.file.now} {at = c.before.before.before.before.before.before.loop.at} (sym c.before.before.before.tag.given.1 ∙ c.before.before.before.before.before.field_at.ensures)).fits, (stands {file = c.before.before.before.before.before.before.before.before.args.file.now} {at = c.before.before.before.before.before.before.loop.at} (sym c.before.before.before.tag.given.1 ∙ c.before.before.before.before.before.field_at.ensures)).behindHead)
+loop-less c = omega (arith, (stands {file = c.before.before.before.before.before.before.before.before.args.file.now} {at = c.before.before.before.before.before.before.loop.at} (sym c.before.before.before.tag.given.1 ∙ c.before.before.before.before.before.field_at.ensures)).fits, (stands {file = c.before.before.before.before.before.before.before.before.args.file.now} {at = c.before.before.before.before.before.before.loop.at} (sym c.before.before.before.tag.given.1 ∙ c.before.before.before.before.before.field_at.ensures)).behind_head)
 
 loop-again : tie.Need-loop-preserved invariant-loop decreases-loop
-loop-again c = among-on (drop c.before.before.before.before.before.before.loop.at c.before.before.before.before.before.before.before.before.args.file.now) _ _ _ (stands {file = c.before.before.before.before.before.before.before.before.args.file.now} {at = c.before.before.before.before.before.before.loop.at} (sym c.before.before.before.tag.given.1 ∙ c.before.before.before.before.before.field_at.ensures)).isFirst c.before.before.before.before.before.before.before.before.args.address c.before.is_Address.ensures c.before.before.before.before.before.before.loop.invariant c.if1.false
+loop-again c = among_on (drop c.before.before.before.before.before.before.loop.at c.before.before.before.before.before.before.before.before.args.file.now) _ _ _ (stands {file = c.before.before.before.before.before.before.before.before.args.file.now} {at = c.before.before.before.before.before.before.loop.at} (sym c.before.before.before.tag.given.1 ∙ c.before.before.before.before.before.field_at.ensures)).is_first c.before.before.before.before.before.before.before.before.args.address c.before.is_Address.ensures c.before.before.before.before.before.before.loop.invariant c.if1.false
 
 pub listed-spec : {M : Type 1} → statement M
 listed-spec =

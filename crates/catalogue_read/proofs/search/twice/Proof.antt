@@ -7,14 +7,14 @@ use mathlib.Core.Path.{◌≡◌, sym, ◌∙◌}
 use lib.ListN.{length, drop}
 use Rattle.catalogue_rules.specs.Field.{fields_of}
 use Rattle.catalogue_rules.proofs.At.{stands, stops}
-use Rattle.catalogue_rules.specs.Reading.{addressesOf, anyTwice}
-use Rattle.catalogue_rules.proofs.Seen.{twice-hit, twice-on, twice-none}
+use Rattle.catalogue_rules.specs.Reading.{addresses_of, any_twice}
+use Rattle.catalogue_rules.proofs.Seen.{twice_hit, twice_on, twice_none}
 use borrow.Author.Rules.{rules}
 use Rattle.catalogue_read.proofs.search.twice.Statement.{statement}
 use Rattle.catalogue_read.proofs.search.twice.Tie as tie
 
 abbrev invariant-loop : tie.invariant-loop
-invariant-loop file at₀ at = anyTwice (addressesOf (fields_of (drop at file))) ≡ anyTwice (addressesOf (fields_of file))
+invariant-loop file at₀ at = any_twice (addresses_of (fields_of (drop at file))) ≡ any_twice (addresses_of (fields_of file))
 
 abbrev decreases-loop : tie.decreases-loop
 decreases-loop file at₀ at = length file - at
@@ -29,7 +29,7 @@ enum_told : tie.Need-enum-told invariant-loop decreases-loop
 enum_told c = search rules
 
 returns : tie.Need-returns invariant-loop decreases-loop
-returns c = twice-none (drop c.before.before.before.loop.at c.before.before.before.before.before.args.file.now) (stops {file = c.before.before.before.before.before.args.file.now} {at = c.before.before.before.loop.at} (sym c.enum_told.given.1 ∙ c.before.before.field_at.ensures)).none c.before.before.before.loop.invariant
+returns c = twice_none (drop c.before.before.before.loop.at c.before.before.before.before.before.args.file.now) (stops {file = c.before.before.before.before.before.args.file.now} {at = c.before.before.before.loop.at} (sym c.enum_told.given.1 ∙ c.before.before.field_at.ensures)).none c.before.before.before.loop.invariant
 
 enum-known-tag : tie.Need-enum-known-tag invariant-loop decreases-loop
 enum-known-tag c = search rules
@@ -41,13 +41,13 @@ comes-again-requires : tie.Need-comes-again-requires invariant-loop decreases-lo
 comes-again-requires c κs = search rules
 
 returns-2 : tie.Need-returns-2 invariant-loop decreases-loop
-returns-2 c = twice-hit (drop c.before.before.before.before.before.before.loop.at c.before.before.before.before.before.before.before.before.args.file.now) _ _ _ (stands {file = c.before.before.before.before.before.before.before.before.args.file.now} {at = c.before.before.before.before.before.before.loop.at} (sym c.before.before.before.tag.given.1 ∙ c.before.before.before.before.before.field_at.ensures)).isFirst c.before.comes-again.ensures c.before.before.before.before.before.before.loop.invariant c.if1.true
+returns-2 c = twice_hit (drop c.before.before.before.before.before.before.loop.at c.before.before.before.before.before.before.before.before.args.file.now) _ _ _ (stands {file = c.before.before.before.before.before.before.before.before.args.file.now} {at = c.before.before.before.before.before.before.loop.at} (sym c.before.before.before.tag.given.1 ∙ c.before.before.before.before.before.field_at.ensures)).is_first c.before.comes-again.ensures c.before.before.before.before.before.before.loop.invariant c.if1.true
 
 loop-less : tie.Need-loop-smaller invariant-loop decreases-loop
-loop-less c = omega (arith, (stands {file = c.before.before.before.before.before.before.before.before.args.file.now} {at = c.before.before.before.before.before.before.loop.at} (sym c.before.before.before.tag.given.1 ∙ c.before.before.before.before.before.field_at.ensures)).fits, (stands {file = c.before.before.before.before.before.before.before.before.args.file.now} {at = c.before.before.before.before.before.before.loop.at} (sym c.before.before.before.tag.given.1 ∙ c.before.before.before.before.before.field_at.ensures)).behindHead)
+loop-less c = omega (arith, (stands {file = c.before.before.before.before.before.before.before.before.args.file.now} {at = c.before.before.before.before.before.before.loop.at} (sym c.before.before.before.tag.given.1 ∙ c.before.before.before.before.before.field_at.ensures)).fits, (stands {file = c.before.before.before.before.before.before.before.before.args.file.now} {at = c.before.before.before.before.before.before.loop.at} (sym c.before.before.before.tag.given.1 ∙ c.before.before.before.before.before.field_at.ensures)).behind_head)
 
 loop-again : tie.Need-loop-preserved invariant-loop decreases-loop
-loop-again c = twice-on (drop c.before.before.before.before.before.before.loop.at c.before.before.before.before.before.before.before.before.args.file.now) _ _ _ (stands {file = c.before.before.before.before.before.before.before.before.args.file.now} {at = c.before.before.before.before.before.before.loop.at} (sym c.before.before.before.tag.given.1 ∙ c.before.before.before.before.before.field_at.ensures)).isFirst c.before.comes-again.ensures c.before.before.before.before.before.before.loop.invariant c.if1.false
+loop-again c = twice_on (drop c.before.before.before.before.before.before.loop.at c.before.before.before.before.before.before.before.before.args.file.now) _ _ _ (stands {file = c.before.before.before.before.before.before.before.before.args.file.now} {at = c.before.before.before.before.before.before.loop.at} (sym c.before.before.before.tag.given.1 ∙ c.before.before.before.before.before.field_at.ensures)).is_first c.before.comes-again.ensures c.before.before.before.before.before.before.loop.invariant c.if1.false
 
 pub twice_spec : {M : Type 1} → statement M
 twice_spec =

@@ -1,7 +1,7 @@
 -- `turns::after_image` meets its contract: each arm answers for its own variant.
 -- Assumes nothing.
 use mathlib.Core.Path.{sym, ap}
-use Rattle.catalogue_rules.specs.Turns.{afterImage}
+use Rattle.catalogue_rules.specs.Turns.{after_image}
 use borrow.Author.Rules.{rules}
 use Rattle.catalogue_read.proofs.turns.after_image.Statement.{statement}
 use Rattle.catalogue_read.proofs.turns.after_image.Tie as tie
@@ -28,7 +28,7 @@ returns-2 : tie.Need-returns-2
 returns-2 c = search rules
 
 returns-3 : tie.Need-returns-3
-returns-3 c = sym (ap afterImage c.before.turn.given.1)
+returns-3 c = sym (ap after_image c.before.turn.given.1)
 
 returns-4 : tie.Need-returns-4
 returns-4 c = search rules

@@ -2,7 +2,7 @@
 -- Assumes nothing.
 use mathlib.Core.Path.{sym, ap, ◌∙◌}
 use Rattle.catalogue_rules.specs.declared.Turn.{Turn}
-use Rattle.catalogue_rules.specs.Turns.{afterNumber}
+use Rattle.catalogue_rules.specs.Turns.{after_number}
 use borrow.Author.Rules.{rules}
 use Rattle.catalogue_read.proofs.turns.after_number.Statement.{statement}
 use Rattle.catalogue_read.proofs.turns.after_number.Tie as tie
@@ -29,13 +29,13 @@ returns : tie.Need-returns
 returns c = search rules
 
 returns-2 : tie.Need-returns-2
-returns-2 c = sym (ap (λ (t : Turn). afterNumber t c.before.before.args.number) c.enum-told2.given.1)
+returns-2 c = sym (ap (λ (t : Turn). after_number t c.before.before.args.number) c.enum-told2.given.1)
 
 returns-3 : tie.Need-returns-3
 returns-3 c = search rules
 
 returns-4 : tie.Need-returns-4
-returns-4 c = c.rises.ensures ∙ sym (ap (λ (t : Turn). afterNumber t c.before.before.before.before.args.number) c.before.before.turn.given.1)
+returns-4 c = c.rises.ensures ∙ sym (ap (λ (t : Turn). after_number t c.before.before.before.before.args.number) c.before.before.turn.given.1)
 
 returns-5 : tie.Need-returns-5
 returns-5 c = search rules

@@ -5,16 +5,16 @@ use Prim.Native.Nat.{◌+◌, ◌*◌, ◌≤◌}
 use native.Mathlib.Omega.{arith}
 use mathlib.Core.Path.{◌≡◌, refl, ap, ◌∙◌}
 use lib.ListN.{length, drop}
-use Rattle.image_rules.specs.Image.{checkOf}
-use Rattle.catalogue_rules.specs.Edit.{imagesWithin, isFor, anyFor}
-use Rattle.catalogue_row.proofs.Each.{none-for, for-here, for-later, so-many}
+use Rattle.image_rules.specs.Image.{check_of}
+use Rattle.catalogue_rules.specs.Edit.{images_within, is_for, any_for}
+use Rattle.catalogue_row.proofs.Each.{none_for, for_here, for_later, so_many}
 use borrow.Author.Rules.{rules}
 use Rattle.catalogue_row.proofs.images.any_for.Statement.{statement}
 use Rattle.catalogue_row.proofs.images.any_for.Tie as tie
 
 abbrev invariant-loop : tie.invariant-loop
 invariant-loop archive images why at₀ untested₀ at untested =
-    (at + 128 * untested ≤ length archive) × (anyFor why (imagesWithin untested (drop at archive)) ≡ anyFor why (imagesWithin images archive))
+    (at + 128 * untested ≤ length archive) × (any_for why (images_within untested (drop at archive)) ≡ any_for why (images_within images archive))
 
 abbrev decreases-loop : tie.decreases-loop
 decreases-loop archive images why at₀ untested₀ at untested = untested
@@ -41,7 +41,7 @@ is-for-requires : tie.Need-is-for-requires invariant-loop decreases-loop
 is-for-requires c κs = search rules
 
 returns : tie.Need-returns invariant-loop decreases-loop
-returns c = for-here c.before.before.before.before.before.before.before.args.archive.now c.before.before.before.before.before.loop.at c.before.before.before.before.before.loop.untested (omega arith) c.before.before.before.before.before.before.before.args.why _ (c.before.is-for.ensures ∙ ap (isFor c.before.before.before.before.before.before.before.args.why) (c.before.before.check.ensures ∙ ap checkOf (so-many c.before.before.before.before.before.before.before.args.archive.now c.before.before.before.before.before.loop.at))) c.before.before.before.before.before.loop.invariant.1 c.if1.true
+returns c = for_here c.before.before.before.before.before.before.before.args.archive.now c.before.before.before.before.before.loop.at c.before.before.before.before.before.loop.untested (omega arith) c.before.before.before.before.before.before.before.args.why _ (c.before.is-for.ensures ∙ ap (is_for c.before.before.before.before.before.before.before.args.why) (c.before.before.check.ensures ∙ ap check_of (so_many c.before.before.before.before.before.before.before.args.archive.now c.before.before.before.before.before.loop.at))) c.before.before.before.before.before.loop.invariant.1 c.if1.true
 
 sub-untested : tie.Need-overflow-sub-untested invariant-loop decreases-loop
 sub-untested c = omega arith
@@ -50,10 +50,10 @@ loop-less : tie.Need-loop-smaller invariant-loop decreases-loop
 loop-less c = omega arith
 
 loop-again : tie.Need-loop-preserved invariant-loop decreases-loop
-loop-again c = (omega arith, for-later c.before.before.before.before.before.before.before.args.archive.now c.before.before.before.before.before.loop.at c.before.before.before.before.before.loop.untested (omega arith) c.before.before.before.before.before.before.before.args.why _ (c.before.is-for.ensures ∙ ap (isFor c.before.before.before.before.before.before.before.args.why) (c.before.before.check.ensures ∙ ap checkOf (so-many c.before.before.before.before.before.before.before.args.archive.now c.before.before.before.before.before.loop.at))) c.before.before.before.before.before.loop.invariant.1 c.if1.false)
+loop-again c = (omega arith, for_later c.before.before.before.before.before.before.before.args.archive.now c.before.before.before.before.before.loop.at c.before.before.before.before.before.loop.untested (omega arith) c.before.before.before.before.before.before.before.args.why _ (c.before.is-for.ensures ∙ ap (is_for c.before.before.before.before.before.before.before.args.why) (c.before.before.check.ensures ∙ ap check_of (so_many c.before.before.before.before.before.before.before.args.archive.now c.before.before.before.before.before.loop.at))) c.before.before.before.before.before.loop.invariant.1 c.if1.false)
 
 returns-2 : tie.Need-returns-2 invariant-loop decreases-loop
-returns-2 c = none-for (drop c.before.loop.at c.before.before.before.args.archive.now) c.before.loop.untested (omega arith) c.before.before.before.args.why c.before.loop.invariant.1
+returns-2 c = none_for (drop c.before.loop.at c.before.before.before.args.archive.now) c.before.loop.untested (omega arith) c.before.before.before.args.why c.before.loop.invariant.1
 
 pub any-for-spec : {M : Type 1} → statement M
 any-for-spec =

@@ -5,10 +5,10 @@ use Prim.Native.Nat.{◌+◌, ◌*◌, ◌≤◌}
 use native.Mathlib.Omega.{arith}
 use mathlib.Core.Path.{◌≡◌, refl}
 use lib.ListN.{length, drop}
-use Rattle.catalogue_rules.specs.Reading.{anyTwice}
-use Rattle.catalogue_rules.specs.Archive.{addressesIn}
-use Rattle.catalogue_rules.specs.Edit.{imagesWithin}
-use Rattle.catalogue_row.proofs.Each.{none-twice, twice-here, twice-later}
+use Rattle.catalogue_rules.specs.Reading.{any_twice}
+use Rattle.catalogue_rules.specs.Archive.{addresses_in}
+use Rattle.catalogue_rules.specs.Edit.{images_within}
+use Rattle.catalogue_row.proofs.Each.{none_twice, twice_here, twice_later}
 use borrow.Author.Rules.{rules}
 use Rattle.catalogue_row.proofs.images.any_twice.Statement.{statement}
 use Rattle.catalogue_row.proofs.images.any_twice.Tie as tie
@@ -16,7 +16,7 @@ use Rattle.catalogue_row.proofs.images.any_twice.Tie as tie
 abbrev invariant-loop : tie.invariant-loop
 invariant-loop archive images at₀ left₀ at left =
     (at + 128 * left ≤ length archive)
-    × (anyTwice (addressesIn (imagesWithin left (drop at archive))) ≡ anyTwice (addressesIn (imagesWithin images archive)))
+    × (any_twice (addresses_in (images_within left (drop at archive))) ≡ any_twice (addresses_in (images_within images archive)))
 
 abbrev decreases-loop : tie.decreases-loop
 decreases-loop archive images at₀ left₀ at left = left
@@ -25,13 +25,13 @@ loop-holds : tie.Need-loop-init invariant-loop decreases-loop
 loop-holds c = (omega arith, refl)
 
 returns : tie.Need-returns invariant-loop decreases-loop
-returns c = twice-here c.before.before.before.before.before.before.args.archive.now c.before.before.before.before.loop.at c.before.before.before.before.loop.left (omega arith) _ c.before.before.address-in.ensures _ c.before.listed.ensures c.before.before.before.before.loop.invariant.1 c.if1.true
+returns c = twice_here c.before.before.before.before.before.before.args.archive.now c.before.before.before.before.loop.at c.before.before.before.before.loop.left (omega arith) _ c.before.before.address-in.ensures _ c.before.listed.ensures c.before.before.before.before.loop.invariant.1 c.if1.true
 
 loop-again : tie.Need-loop-preserved invariant-loop decreases-loop
-loop-again c = (omega arith, twice-later c.before.before.before.before.before.before.args.archive.now c.before.before.before.before.loop.at c.before.before.before.before.loop.left (omega arith) _ c.before.before.address-in.ensures _ c.before.listed.ensures c.before.before.before.before.loop.invariant.1 c.if1.false)
+loop-again c = (omega arith, twice_later c.before.before.before.before.before.before.args.archive.now c.before.before.before.before.loop.at c.before.before.before.before.loop.left (omega arith) _ c.before.before.address-in.ensures _ c.before.listed.ensures c.before.before.before.before.loop.invariant.1 c.if1.false)
 
 returns-2 : tie.Need-returns-2 invariant-loop decreases-loop
-returns-2 c = none-twice (drop c.before.loop.at c.before.before.before.args.archive.now) c.before.loop.left (omega arith) c.before.loop.invariant.1
+returns-2 c = none_twice (drop c.before.loop.at c.before.before.before.args.archive.now) c.before.loop.left (omega arith) c.before.loop.invariant.1
 
 pub any-twice-spec : {M : Type 1} → statement M
 any-twice-spec =

@@ -2,7 +2,7 @@
 -- Assumes nothing.
 use mathlib.Core.Path.{sym, ap, ap₂, ◌∙◌}
 use lib.Dec.{eqb}
-use Rattle.catalogue_rules.specs.Edit.{isFor}
+use Rattle.catalogue_rules.specs.Edit.{is_for}
 use borrow.Author.Rules.{rules}
 use Rattle.catalogue_row.proofs.images.is_for.Statement.{statement}
 use Rattle.catalogue_row.proofs.images.is_for.Tie as tie
@@ -20,10 +20,10 @@ enum_told : tie.Need-enum-told
 enum_told c = search rules
 
 returns : tie.Need-returns
-returns c = ap₂ eqb c.before.number.ensures c.number2.ensures ∙ sym (ap (isFor c.before.before.before.before.before.args.why) c.before.before.before.found.given.1)
+returns c = ap₂ eqb c.before.number.ensures c.number2.ensures ∙ sym (ap (is_for c.before.before.before.before.before.args.why) c.before.before.before.found.given.1)
 
 returns-2 : tie.Need-returns-2
-returns-2 c = sym (ap (isFor c.before.before.args.why) c.enum_told.given.1)
+returns-2 c = sym (ap (is_for c.before.before.args.why) c.enum_told.given.1)
 
 pub is-for-spec : {M : Type 1} → statement M
 is-for-spec =

@@ -5,9 +5,9 @@ use Prim.Native.Nat.{◌+◌, ◌*◌, ◌≤◌}
 use native.Mathlib.Omega.{arith}
 use mathlib.Core.Path.{◌≡◌, refl}
 use lib.ListN.{length, drop}
-use Rattle.catalogue_rules.specs.Reading.{isAmong}
-use Rattle.catalogue_rules.specs.Archive.{addressesIn}
-use Rattle.catalogue_rules.specs.Edit.{imagesWithin}
+use Rattle.catalogue_rules.specs.Reading.{is_among}
+use Rattle.catalogue_rules.specs.Archive.{addresses_in}
+use Rattle.catalogue_rules.specs.Edit.{images_within}
 use Rattle.catalogue_row.proofs.Each.{none-listed, listed_here, listed-later}
 use borrow.Author.Rules.{rules}
 use Rattle.catalogue_row.proofs.images.listed.Statement.{statement}
@@ -16,7 +16,7 @@ use Rattle.catalogue_row.proofs.images.listed.Tie as tie
 abbrev invariant-loop : tie.invariant-loop
 invariant-loop archive from images address at₀ unseen₀ at unseen =
     (at + 128 * unseen ≤ length archive)
-    × (isAmong address (addressesIn (imagesWithin unseen (drop at archive))) ≡ isAmong address (addressesIn (imagesWithin images (drop from archive))))
+    × (is_among address (addresses_in (images_within unseen (drop at archive))) ≡ is_among address (addresses_in (images_within images (drop from archive))))
 
 abbrev decreases-loop : tie.decreases-loop
 decreases-loop archive from images address at₀ unseen₀ at unseen = unseen

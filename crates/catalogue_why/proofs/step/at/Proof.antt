@@ -17,13 +17,13 @@ enum-known-tag : tie.Need-enum-known-tag
 enum-known-tag c = search rules
 
 add-t8 : tie.Need-overflow-add-t8
-add-t8 c = let w = stands {file = c.before.before.before.before.before.args.file.now} {at = c.before.before.before.before.before.args.at} (sym c.before.tag.given.1 ∙ c.before.before.before.field_at.ensures) in omega (arith, w.behindHead, w.fits)
+add-t8 c = let w = stands {file = c.before.before.before.before.before.args.file.now} {at = c.before.before.before.before.before.args.at} (sym c.before.tag.given.1 ∙ c.before.before.before.field_at.ensures) in omega (arith, w.behind_head, w.fits)
 
 returns : tie.Need-returns
 returns c = search rules
 
 returns-2 : tie.Need-returns-2
-returns-2 c = let w = stands {file = c.before.before.before.before.before.args.file.now} {at = c.before.before.before.before.before.args.at} (sym c.before.tag.given.1 ∙ c.before.before.before.field_at.ensures) in omega (arith, w.behindHead, w.fits)
+returns-2 c = let w = stands {file = c.before.before.before.before.before.args.file.now} {at = c.before.before.before.before.before.args.at} (sym c.before.tag.given.1 ∙ c.before.before.before.field_at.ensures) in omega (arith, w.behind_head, w.fits)
 
 pub at-spec : {M : Type 1} → statement M
 at-spec =

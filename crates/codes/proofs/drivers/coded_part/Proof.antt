@@ -3,14 +3,14 @@ use mathlib.Core.Path.{◌≡◌, refl}
 use Prim.Native.Nat.{ℕ, ◌≤◌, ◌<◌}
 use native.Mathlib.Omega.{arith}
 use borrow.Author.Tests.{le-leb, lt-leb}
-use Rattle.codes.specs.Codes.{codedPart}
+use Rattle.codes.specs.Codes.{coded_part}
 use Rattle.codes.proofs.drivers.coded_part.Statement.{statement}
 use Rattle.codes.proofs.drivers.coded_part.Tie as tie
 
-look : (n len : ℕ) → n ≤ 256 → record { area = 1; n = len } ≡ codedPart n len
+look : (n len : ℕ) → n ≤ 256 → record { area = 1; n = len } ≡ coded_part n len
 look n len h = rw (le-leb n 256 h) refl
 
-frame : (n len : ℕ) → 256 < n → record { area = 2; n = len } ≡ codedPart n len
+frame : (n len : ℕ) → 256 < n → record { area = 2; n = len } ≡ coded_part n len
 frame n len h = rw (lt-leb n 256 h) refl
 
 returns : tie.Need-returns

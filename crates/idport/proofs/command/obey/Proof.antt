@@ -2,12 +2,12 @@
 -- Assumes nothing.
 use borrow.Author.Rules.{rules}
 use borrow.Author.Tests.{lt-ltb, le-ltb, eq-eqb, ne_eqb}
-use Rattle.port_rules.specs.Card.{idCommand}
+use Rattle.port_rules.specs.Card.{id_command}
 use Rattle.idport.proofs.command.obey.Statement.{statement}
 use Rattle.idport.proofs.command.obey.Tie as tie
 
 pub obey-spec : {M : Type 1} → statement M
-unfolding idCommand
+unfolding id_command
 obey-spec =
     tie.close
     (tie.spec

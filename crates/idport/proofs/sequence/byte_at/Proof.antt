@@ -2,13 +2,13 @@
 -- Assumes nothing.
 use Prim.Native.Nat.{◌<◌}
 use borrow.Author.Rules.{rules}
-use Rattle.port_rules.specs.Sequence.{idNext}
+use Rattle.port_rules.specs.Sequence.{id_next}
 use Rattle.port_rules.proofs.Chain.{chained}
 use Rattle.idport.proofs.sequence.byte_at.Statement.{statement}
 use Rattle.idport.proofs.sequence.byte_at.Tie as tie
 
 returns : tie.Need-returns
-unfolding idNext
+unfolding id_next
 returns c =
     let below : c.args.i < 255 = search rules in
     let tested : Unit {0} = tt in

@@ -4,32 +4,32 @@ use mathlib.Core.Path.{sym, ◌∙◌}
 use native.Mathlib.Omega.{arith}
 use borrow.Author.Rules.{rules}
 use borrow.Author.Tests.{eq-eqb, ne_eqb}
-use Rattle.port_rules.specs.Card.{idWait}
+use Rattle.port_rules.specs.Card.{id_wait}
 use Rattle.port_rules.proofs.Keep.{expected-below}
 use Rattle.idport.proofs.wait.listen.Statement.{statement}
 use Rattle.idport.proofs.wait.listen.Tie as tie
 
 returns : tie.Need-returns
-unfolding idWait
+unfolding id_wait
 returns c = search (rules, eq-eqb, ne_eqb)
 
 returns-2 : tie.Need-returns-2
-unfolding idWait
+unfolding id_wait
 returns-2 c = search (rules, eq-eqb, ne_eqb)
 
 returns-3 : tie.Need-returns-3
-unfolding idWait
+unfolding id_wait
 returns-3 c = search (rules, eq-eqb, ne_eqb, sym c.before.before.is-expected.ensures ∙ c.before.if3.true)
 
 add-s : tie.Need-overflow-add-s
 add-s c = omega (arith, expected-below _ _ (sym c.before.before.is-expected.ensures ∙ c.before.if3.true))
 
 returns-4 : tie.Need-returns-4
-unfolding idWait
+unfolding id_wait
 returns-4 c = search (rules, eq-eqb, ne_eqb, sym c.before.before.is-expected.ensures ∙ c.before.if3.true)
 
 returns-5 : tie.Need-returns-5
-unfolding idWait
+unfolding id_wait
 returns-5 c = search (rules, eq-eqb, ne_eqb, sym c.before.is-expected.ensures ∙ c.if3.false)
 
 pub listen-spec : {M : Type 1} → statement M

@@ -1,7 +1,7 @@
 -- `forms::with_hex` meets its contract: each store puts in the digit that `hex::digit` gives, which is the same as the line's.
 -- Assumes nothing.
 use borrow.Author.Rules.{rules}
-use Rattle.bench_rules.specs.Text.{digitOf}
+use Rattle.bench_rules.specs.Text.{digit_of}
 use Rattle.image_check.proofs.forms.with_hex.Statement.{statement}
 use Rattle.image_check.proofs.forms.with_hex.Tie as tie
 
@@ -39,7 +39,7 @@ array-write-bytes-4 : tie.Need-array-write-bytes-4
 array-write-bytes-4 c = search rules
 
 returns : tie.Need-returns
-unfolding digitOf
+unfolding digit_of
 returns c =
     rw (c.digit4.ensures, c.before.digit3.ensures, c.before.before.digit2.ensures, c.before.before.before.digit.ensures)
 

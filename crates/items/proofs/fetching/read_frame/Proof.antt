@@ -5,7 +5,7 @@ use native.Mathlib.Omega.{arith}
 use lib.ListN.{length-set}
 use Rattle.card_rules.specs.View.{view, Sound}
 use Rattle.driver_rules.proofs.Runs.{gave}
-use Rattle.driver_rules.proofs.Reading.{Reading, reading-none, reading-one, reading-two, reading-all}
+use Rattle.driver_rules.proofs.Reading.{Reading, reading-none, reading-one, reading-two, reading_all}
 use borrow.Author.Rules.{rules}
 use Rattle.items.proofs.fetching.read_frame.Statement.{statement}
 use Rattle.items.proofs.fetching.read_frame.Tie as tie
@@ -57,7 +57,7 @@ same_length : tie.Need-same-length invariant-loop decreases-loop
 same_length c = c.before.loop.invariant.1.1.size
 
 returns : tie.Need-returns invariant-loop decreases-loop
-returns c = let e = reading-all _ _ _ _ _ _ c.before.loop.invariant.1.1 (omega arith) in record { stands = record { shows = e.0; sound = c.before.loop.invariant.1.0 }; laid = e.1 }
+returns c = let e = reading_all _ _ _ _ _ _ c.before.loop.invariant.1.1 (omega arith) in record { stands = record { shows = e.0; sound = c.before.loop.invariant.1.0 }; laid = e.1 }
 
 pub read-frame-spec : {M : Type 1} → statement M
 read-frame-spec =

@@ -4,7 +4,7 @@ use mathlib.Core.Path.{refl}
 use Prim.Native.Nat.{◌≤◌, ◌-◌}
 use native.Mathlib.Omega.{arith}
 use borrow.Author.Rules.{rules}
-use Rattle.lent_port.proofs.Loops.{CalledAt, called-turn, called-end}
+use Rattle.lent_port.proofs.Loops.{CalledAt, called_turn, called_end}
 use Rattle.lent_port.proofs.card.call_up.Statement.{statement}
 use Rattle.lent_port.proofs.card.call_up.Tie as tie
 
@@ -18,10 +18,10 @@ loop-holds : tie.Need-loop-init invariant-loop decreases-loop
 loop-holds c = (search rules, refl)
 
 loop-again : tie.Need-loop-preserved invariant-loop decreases-loop
-loop-again c = (omega arith, called-turn _ c.before.before.before.loop.i _ _ _ _ (omega arith) c.before.byte-at.ensures c.id-write3.ensures c.before.before.before.loop.invariant.1)
+loop-again c = (omega arith, called_turn _ c.before.before.before.loop.i _ _ _ _ (omega arith) c.before.byte-at.ensures c.id-write3.ensures c.before.before.before.loop.invariant.1)
 
 returns : tie.Need-returns invariant-loop decreases-loop
-returns c = called-end _ c.before.loop.i _ _ _ _ (omega arith) (omega arith) c.before.before.before.id-write.ensures c.before.before.id-write2.ensures c.before.loop.invariant.1
+returns c = called_end _ c.before.loop.i _ _ _ _ (omega arith) (omega arith) c.before.before.before.id-write.ensures c.before.before.id-write2.ensures c.before.loop.invariant.1
 
 pub call-up-spec : {M : Type 1} → statement M
 call-up-spec =

@@ -4,7 +4,7 @@ use mathlib.Core.Path.{refl}
 use Prim.Native.Nat.{◌<◌, ◌≤◌, ◌-◌}
 use native.Mathlib.Omega.{arith}
 use borrow.Author.Rules.{rules}
-use Rattle.lent_port.proofs.Loops.{HeardAt, heard-turn, heard-end}
+use Rattle.lent_port.proofs.Loops.{HeardAt, heard_turn, heard-end}
 use Rattle.lent_port.proofs.card.hear_word.Statement.{statement}
 use Rattle.lent_port.proofs.card.hear_word.Tie as tie
 
@@ -18,7 +18,7 @@ loop-holds : tie.Need-loop-init invariant-loop decreases-loop
 loop-holds c = (search rules, search rules, refl)
 
 loop-again : tie.Need-loop-preserved invariant-loop decreases-loop
-loop-again c = (omega arith, omega arith, heard-turn _ c.before.before.loop.i _ _ _ _ _ (omega arith) c.id-after-read.ensures c.before.before.loop.invariant.2)
+loop-again c = (omega arith, omega arith, heard_turn _ c.before.before.loop.i _ _ _ _ _ (omega arith) c.id-after-read.ensures c.before.before.loop.invariant.2)
 
 returns : tie.Need-returns invariant-loop decreases-loop
 returns c = heard-end _ c.before.loop.i _ _ _ _ (omega arith) c.before.loop.invariant.2

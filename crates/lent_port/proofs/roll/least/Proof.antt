@@ -5,7 +5,7 @@ use Prim.Native.Nat.{◌≤◌, ◌-◌}
 use lib.ListN.{length}
 use native.Mathlib.Omega.{arith}
 use borrow.Author.Rules.{rules}
-use Rattle.lent_port.proofs.Loops.{LeastAt, least_start, least-turn, least-end}
+use Rattle.lent_port.proofs.Loops.{LeastAt, least_start, least_turn, least-end}
 use Rattle.lent_port.proofs.roll.least.Statement.{statement}
 use Rattle.lent_port.proofs.roll.least.Tie as tie
 
@@ -22,7 +22,7 @@ loop-again : tie.Need-loop-preserved invariant-loop decreases-loop
 loop-again c =
     let xs = c.before.before.before.args.t1 in
     let l : length xs ≡ 8 = search rules in
-    (omega arith, least-turn xs c.before.before.loop.i _ _ _ (omega arith) c.lower.ensures c.before.before.loop.invariant.1)
+    (omega arith, least_turn xs c.before.before.loop.i _ _ _ (omega arith) c.lower.ensures c.before.before.loop.invariant.1)
 
 returns : tie.Need-returns invariant-loop decreases-loop
 returns c =

@@ -1,12 +1,12 @@
 -- `searched` meets its contract: the tests decide whether the card is stepped.
 -- Assumes nothing.
 use borrow.Author.Rules.{rules}
-use Rattle.lent_port.specs.Roll.{searchedBy}
+use Rattle.lent_port.specs.Roll.{searched_by}
 use Rattle.lent_port.proofs.roll.searched.Statement.{statement}
 use Rattle.lent_port.proofs.roll.searched.Tie as tie
 
 returns : tie.Need-returns
-unfolding searchedBy
+unfolding searched_by
 returns c = rw (c.through.ensures, c.before.before.id-write.ensures, c.before.before.before.call_up.ensures, c.before.before.before.before.if1.true)
 
 returns-2 : tie.Need-returns-2

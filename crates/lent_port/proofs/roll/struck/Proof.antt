@@ -8,14 +8,14 @@ use lib.ListN.{length}
 use native.Mathlib.Omega.{arith}
 use borrow.Author.Rules.{rules}
 use Rattle.bits.specs.UpTo.{up_to}
-use Rattle.bits.proofs.UpTo.{upTo-turn, upTo-all}
-use Rattle.port_rules.specs.Search.{allOnes}
+use Rattle.bits.proofs.UpTo.{upTo_turn, upTo_all}
+use Rattle.port_rules.specs.Search.{all_ones}
 use Rattle.lent_port.specs.Roll.{struck}
 use Rattle.lent_port.proofs.roll.struck.Statement.{statement}
 use Rattle.lent_port.proofs.roll.struck.Tie as tie
 
 abbrev invariant-loop : tie.invariant-loop
-invariant-loop address addresses₀ i₀ addresses i = (i ≤ 8) × (addresses ≡ up_to (λ x. cond (eqb x address) allOnes x) i addresses₀)
+invariant-loop address addresses₀ i₀ addresses i = (i ≤ 8) × (addresses ≡ up_to (λ x. cond (eqb x address) all_ones x) i addresses₀)
 
 abbrev decreases-loop : tie.decreases-loop
 decreases-loop address addresses₀ i₀ addresses i = 8 - i
@@ -25,14 +25,14 @@ unfolding up_to
 loop-holds c = (search rules, refl)
 
 loop-again : tie.Need-loop-preserved invariant-loop decreases-loop
-loop-again c = (omega arith, upTo-turn _ _ _ _ _ _ c.before.before.loop.invariant.1 c.unless.ensures)
+loop-again c = (omega arith, upTo_turn _ _ _ _ _ _ c.before.before.loop.invariant.1 c.unless.ensures)
 
 returns : tie.Need-returns invariant-loop decreases-loop
 unfolding struck
 returns c =
     let xs = c.before.before.args.t1 in
     let l : length xs ≡ 8 = search rules in
-    c.before.loop.invariant.1 ∙ upTo-all _ _ _ (omega arith)
+    c.before.loop.invariant.1 ∙ upTo_all _ _ _ (omega arith)
 
 pub struck-spec : {M : Type 1} → statement M
 struck-spec =

@@ -6,7 +6,7 @@ use native.Mathlib.Omega.{arith}
 use lib.ListN.{length, take, length-take, get_or}
 use lib.Seq.{get_or-take}
 use borrow.Author.Rules.{rules}
-use Rattle.lent_port.proofs.Loops.{ThroughAt, through-turn, through-ones, through-end}
+use Rattle.lent_port.proofs.Loops.{ThroughAt, through_turn, through-ones, through-end}
 use Rattle.lent_port.proofs.roll.through.Statement.{statement}
 use Rattle.lent_port.proofs.roll.through.Tie as tie
 
@@ -28,7 +28,7 @@ loop-again c =
     let small : i < 7 = omega arith in
     let within : i < length (take count xs) = omega (arith, length-take count xs, c.before.before.before.at-most-seven.ensures) in
     let same : get_or xs i 0 ≡ get_or (take count xs) i 0 = sym (get_or-take count xs i 0 (omega (arith, c.before.before.before.at-most-seven.ensures))) in
-    (omega arith, c.before.before.loop.invariant.1, through-turn _ i 0 _ (take count xs) _ _ _ _ small within same refl c.round.ensures c.before.before.loop.invariant.2)
+    (omega arith, c.before.before.loop.invariant.1, through_turn _ i 0 _ (take count xs) _ _ _ _ small within same refl c.round.ensures c.before.before.loop.invariant.2)
 
 returns : tie.Need-returns invariant-loop decreases-loop
 returns c =

@@ -47,8 +47,8 @@ use Rattle.port_rules.specs.declared.IdState.{IdState}
 use Rattle.port_rules.specs.declared.Bus.{Bus}
 use Rattle.port_rules.specs.declared.Bit.{Bit}
 use Rattle.port_rules.specs.declared.AfterRead.{AfterRead}
-use Rattle.port_rules.specs.Calls.{read_of, portReads}
-use Rattle.port_rules.specs.Lent.{lent, readOver}
+use Rattle.port_rules.specs.Calls.{read_of, port_reads}
+use Rattle.port_rules.specs.Lent.{lent, read_over}
 use Rattle.port_rules.specs.contracts.IdState as T
 use Rattle.port_rules.proofs.IdState.TheLaws as T'
 use Rattle.port_rules.specs.contracts.Bus as K
@@ -60,13 +60,13 @@ use Rattle.port_rules.proofs.AfterRead.TheLaws as Rs'
 use Rattle.port.proofs.LentPart.{machine, Are, Kept, Slice, lends, back}
 use Rattle.port.proofs.Lender.{read-lent}
 use Rattle.lent_port.specs.contracts.read as callee
-use Rattle.lent_port.proofs.read.Symbol as callee-def
-use Rattle.lent_port.proofs.read.Symbol.{name as #lent-port·read}
-use Rattle.lent_port.proofs.read.Met as callee-thm
+use Rattle.lent_port.proofs.read.Symbol as callee_def
+use Rattle.lent_port.proofs.read.Symbol.{name as #lent_port·read}
+use Rattle.lent_port.proofs.read.Met as callee_thm
 use Rattle.port.specs.contracts.lend.after_read as after
-use Rattle.port.proofs.lend.after_read.Symbol as after-def
+use Rattle.port.proofs.lend.after_read.Symbol as after_def
 use Rattle.port.proofs.lend.after_read.Symbol.{name as #port·lend·after-read}
-use Rattle.port.proofs.lend.after_read.Met as after-thm
+use Rattle.port.proofs.lend.after_read.Met as after_thm
 use Rattle.port.specs.contracts.lend.read.Key.{name as #own}
 use Rattle.port.specs.contracts.lend.read as own
 use Rattle.port.proofs.lend.read.Statement as stated
@@ -86,7 +86,7 @@ module _ {M : Type 1} {𝓤 : Ura M} (𝓛 : Logic 𝓤) (at_mem : Memory → SP
   After = triple_of 𝓛 after.signature (after.spec 𝓛 at_mem run)
 
   record Known (𝓣 : Tables 𝓤 H) : Type 1 where
-    lends-to : Triple 𝓤 (𝓣.C #lent-port·read) Callee
+    lends-to : Triple 𝓤 (𝓣.C #lent_port·read) Callee
     joins-by : Triple 𝓤 (𝓣.C #port·lend·after-read) After
 
 module _ {M : Type 1} {𝓤 : Ura M} (𝓛 : Logic 𝓤) (at_mem : Memory → SProp 𝓤) (run : Routine → Fun 𝓤) (xs : List IdState) (n : ℕ) (port : ℕ) (port-fits : port < 2 ^ 16) where
@@ -120,7 +120,7 @@ module _ {M : Type 1} {𝓤 : Ura M} (𝓛 : Logic 𝓤) (at_mem : Memory → SP
   made : Fits xs → (zs : List IdState) → Are T.the_type T'.the_laws 8 zs → Fits zs
   made g zs is = LL.owes K.the_type K'.the_laws (with zs) (is_put (K.the_type).parts K'.the_laws 0 zs ((K.struct).as_values (with xs)) (LL.owed K.the_type K'.the_laws (with xs) (mach xs ∷ []) g) is)
 
-  exits : (r : AfterRead) (v : Val) → Fits xs → read_of r ≡ portReads (with xs) port → Is Rs.the_row r (v ∷ []) → ent 𝓤 (emp 𝓤) (Post v)
+  exits : (r : AfterRead) (v : Val) → Fits xs → read_of r ≡ port_reads (with xs) port → Is Rs.the_row r (v ∷ []) → ent 𝓤 (emp 𝓤) (Post v)
   exits r v g e is =
       qed 𝓛 [] ∵
       suffices ! _ (ends_at 𝓛 own.ended stayed (own.clauses 𝓛 at_mem run) ((tt, tt, tt, a, at), tt) v r (tt, (tt, tt)) (tt, (tt, tt))) $ says ! e $
@@ -177,8 +177,8 @@ module _ {M : Type 1} {𝓤 : Ura M} (𝓛 : Logic 𝓤) (at_mem : Memory → SP
         move ! (2 ∷ 0 ∷ []) $ use2 𝓛 (raw ((Callee 𝓛 at_mem run).pre (to-callee l₄ ν δ))) (goes-callee l₄ ν δ) $
         calls_at ! (fm_of 𝓤 H 𝓛.laws 𝓣) (Callee 𝓛 at_mem run) known.lends-to (to-callee l₄ ν δ) (and_then ! (load ! (from ! (stop !)) (look ! 5 refl)) (and_then ! (load ! (from ! (stop !)) (look ! 14 refl)) (no_more !))) (λ w.
         use1 𝓛 (later (some (λ (u : Bit). ((‵ (flft (ν ∷ []) full_share) ⊛ ‵ ftrue) ⊛ ‵ ((An.the_row).own_val u (w ∷ []))) ⊛ raw (ensured 𝓛 callee.ended (callee.clauses 𝓛 at_mem run) (ν ∷ [], tt) (lends-it l₄ δ, (port, tt)) tt u)))) (id⊢ 𝓤 _) $ await ! tt $ pick ! (λ u.
-        split ! $ move ! (1 ∷ []) $ use1 𝓛 (some (λ (zs : List IdState × (Unit {0} × Unit {0})). ‵ (lasts callee.ended (ν ∷ [], tt) (lends-it l₄ δ, (port, tt)) zs) ⊛ raw (fact 𝓤 (readOver u zs.0 ≡ portReads (lent (take n xs)) port)))) (id⊢ 𝓤 _) $ pick ! (λ zs.
-        split ! $ move ! (1 ∷ []) $ heard ! (readOver u zs.0 ≡ portReads (lent (take n xs)) port) (λ e. fsplit ! $ fsplit ! $
+        split ! $ move ! (1 ∷ []) $ use1 𝓛 (some (λ (zs : List IdState × (Unit {0} × Unit {0})). ‵ (lasts callee.ended (ν ∷ [], tt) (lends-it l₄ δ, (port, tt)) zs) ⊛ raw (fact 𝓤 (read_over u zs.0 ≡ port_reads (lent (take n xs)) port)))) (id⊢ 𝓤 _) $ pick ! (λ zs.
+        split ! $ move ! (1 ∷ []) $ heard ! (read_over u zs.0 ≡ port_reads (lent (take n xs)) port) (λ e. fsplit ! $ fsplit ! $
         -- [the last list; its length; …; the token and the result; what is kept; the way back; the locals]
         move ! (3 ∷ []) $ split ! $ move ! (1 ∷ []) $ facts ! An.the_row (Is An.the_row) (shows 𝓛 An.the_row) u (w ∷ []) (λ is-u. land ! (from ! (stop !)) (init ! 12 refl ((EL.lawful An.the_type An'.the_laws 𝓛 tt).typed u _ is-u).0) $
         -- the lifetime is ended, and the cards come back, and go back into the local's cell
@@ -214,6 +214,6 @@ read_spec 𝓤 𝓛 𝓜 𝓡 =
     entered 𝓤 𝓛.H (triple_of 𝓛 own.signature (own.spec 𝓛 𝓜.mem 𝓡.run))
     (tables 𝓤 𝓛.H 𝓜 𝓡 code.env).C (tables 𝓤 𝓛.H 𝓜 𝓡 code.env).Λ #own code.function (code.unfolded 𝓤 𝓛.H 𝓜 𝓡)
     (meets 𝓛 𝓜.mem 𝓡.run (tables_of 𝓤 𝓛.H 𝓜 (tables 𝓤 𝓛.H 𝓜 𝓡 code.env)) (record {
-      lends-to = cited 𝓤 𝓛.H (Callee 𝓛 𝓜.mem 𝓡.run) 𝓜 𝓡 code.env #lent-port·read callee-def.routine code.calls-lent-port::read (callee-thm.met 𝓤 𝓛 𝓜 𝓡);
-      joins-by = cited 𝓤 𝓛.H (After 𝓛 𝓜.mem 𝓡.run) 𝓜 𝓡 code.env #port·lend·after-read after-def.routine code.calls-port::lend::after-read (after-thm.met 𝓤 𝓛 𝓜 𝓡);
+      lends-to = cited 𝓤 𝓛.H (Callee 𝓛 𝓜.mem 𝓡.run) 𝓜 𝓡 code.env #lent_port·read callee_def.routine code.calls-lent-port::read (callee_thm.met 𝓤 𝓛 𝓜 𝓡);
+      joins-by = cited 𝓤 𝓛.H (After 𝓛 𝓜.mem 𝓡.run) 𝓜 𝓡 code.env #port·lend·after-read after_def.routine code.calls-port::lend::after-read (after_thm.met 𝓤 𝓛 𝓜 𝓡);
     }))

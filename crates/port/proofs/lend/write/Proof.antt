@@ -47,8 +47,8 @@ use Rattle.port_rules.specs.declared.IdState.{IdState}
 use Rattle.port_rules.specs.declared.Bus.{Bus}
 use Rattle.port_rules.specs.declared.Wrote.{Wrote}
 use Rattle.port_rules.specs.declared.AfterWrite.{AfterWrite}
-use Rattle.port_rules.specs.Calls.{wroteOf, portWrites}
-use Rattle.port_rules.specs.Lent.{lent, wroteOver}
+use Rattle.port_rules.specs.Calls.{wrote_of, port_writes}
+use Rattle.port_rules.specs.Lent.{lent, wrote_over}
 use Rattle.port_rules.specs.contracts.IdState as T
 use Rattle.port_rules.proofs.IdState.TheLaws as T'
 use Rattle.port_rules.specs.contracts.Bus as K
@@ -60,13 +60,13 @@ use Rattle.port_rules.proofs.AfterWrite.TheLaws as Rs'
 use Rattle.port.proofs.LentPart.{machine, Are, Kept, Slice, lends, back}
 use Rattle.port.proofs.Lender.{wrote-lent}
 use Rattle.lent_port.specs.contracts.write as callee
-use Rattle.lent_port.proofs.write.Symbol as callee-def
-use Rattle.lent_port.proofs.write.Symbol.{name as #lent-port·write}
-use Rattle.lent_port.proofs.write.Met as callee-thm
+use Rattle.lent_port.proofs.write.Symbol as callee_def
+use Rattle.lent_port.proofs.write.Symbol.{name as #lent_port·write}
+use Rattle.lent_port.proofs.write.Met as callee_thm
 use Rattle.port.specs.contracts.lend.after_write as after
-use Rattle.port.proofs.lend.after_write.Symbol as after-def
+use Rattle.port.proofs.lend.after_write.Symbol as after_def
 use Rattle.port.proofs.lend.after_write.Symbol.{name as #port·lend·after-write}
-use Rattle.port.proofs.lend.after_write.Met as after-thm
+use Rattle.port.proofs.lend.after_write.Met as after_thm
 use Rattle.port.specs.contracts.lend.write.Key.{name as #own}
 use Rattle.port.specs.contracts.lend.write as own
 use Rattle.port.proofs.lend.write.Statement as stated
@@ -86,7 +86,7 @@ module _ {M : Type 1} {𝓤 : Ura M} (𝓛 : Logic 𝓤) (at_mem : Memory → SP
   After = triple_of 𝓛 after.signature (after.spec 𝓛 at_mem run)
 
   record Known (𝓣 : Tables 𝓤 H) : Type 1 where
-    lends-to : Triple 𝓤 (𝓣.C #lent-port·write) Callee
+    lends-to : Triple 𝓤 (𝓣.C #lent_port·write) Callee
     joins-by : Triple 𝓤 (𝓣.C #port·lend·after-write) After
 
 module _ {M : Type 1} {𝓤 : Ura M} (𝓛 : Logic 𝓤) (at_mem : Memory → SProp 𝓤) (run : Routine → Fun 𝓤) (xs : List IdState) (n : ℕ) (port : ℕ) (port-fits : port < 2 ^ 16) (byte : ℕ) (byte_fits : byte < 2 ^ 8) where
@@ -120,7 +120,7 @@ module _ {M : Type 1} {𝓤 : Ura M} (𝓛 : Logic 𝓤) (at_mem : Memory → SP
   made : Fits xs → (zs : List IdState) → Are T.the_type T'.the_laws 8 zs → Fits zs
   made g zs is = LL.owes K.the_type K'.the_laws (with zs) (is_put (K.the_type).parts K'.the_laws 0 zs ((K.struct).as_values (with xs)) (LL.owed K.the_type K'.the_laws (with xs) (mach xs ∷ []) g) is)
 
-  exits : (r : AfterWrite) (v : Val) → Fits xs → wroteOf r ≡ portWrites (with xs) port byte → Is Rs.the_row r (v ∷ []) → ent 𝓤 (emp 𝓤) (Post v)
+  exits : (r : AfterWrite) (v : Val) → Fits xs → wrote_of r ≡ port_writes (with xs) port byte → Is Rs.the_row r (v ∷ []) → ent 𝓤 (emp 𝓤) (Post v)
   exits r v g e is =
       qed 𝓛 [] ∵
       suffices ! _ (ends_at 𝓛 own.ended stayed (own.clauses 𝓛 at_mem run) ((tt, tt, tt, a, at), tt) v r (tt, (tt, (tt, tt))) (tt, (tt, (tt, tt)))) $ says ! e $
@@ -177,8 +177,8 @@ module _ {M : Type 1} {𝓤 : Ura M} (𝓛 : Logic 𝓤) (at_mem : Memory → SP
         move ! (2 ∷ 0 ∷ []) $ use2 𝓛 (raw ((Callee 𝓛 at_mem run).pre (to-callee l₅ ν δ))) (goes-callee l₅ ν δ) $
         calls_at ! (fm_of 𝓤 H 𝓛.laws 𝓣) (Callee 𝓛 at_mem run) known.lends-to (to-callee l₅ ν δ) (and_then ! (load ! (from ! (stop !)) (look ! 5 refl)) (and_then ! (load ! (from ! (stop !)) (look ! 16 refl)) (and_then ! (load ! (from ! (stop !)) (look ! 14 refl)) (no_more !)))) (λ w.
         use1 𝓛 (later (some (λ (u : Wrote). ((‵ (flft (ν ∷ []) full_share) ⊛ ‵ ftrue) ⊛ ‵ ((An.the_row).own_val u (w ∷ []))) ⊛ raw (ensured 𝓛 callee.ended (callee.clauses 𝓛 at_mem run) (ν ∷ [], tt) (lends-it l₅ δ, (port, (byte, tt))) tt u)))) (id⊢ 𝓤 _) $ await ! tt $ pick ! (λ u.
-        split ! $ move ! (1 ∷ []) $ use1 𝓛 (some (λ (zs : List IdState × (Unit {0} × (Unit {0} × Unit {0}))). ‵ (lasts callee.ended (ν ∷ [], tt) (lends-it l₅ δ, (port, (byte, tt))) zs) ⊛ raw (fact 𝓤 (wroteOver u zs.0 ≡ portWrites (lent (take n xs)) port byte)))) (id⊢ 𝓤 _) $ pick ! (λ zs.
-        split ! $ move ! (1 ∷ []) $ heard ! (wroteOver u zs.0 ≡ portWrites (lent (take n xs)) port byte) (λ e. fsplit ! $ fsplit ! $
+        split ! $ move ! (1 ∷ []) $ use1 𝓛 (some (λ (zs : List IdState × (Unit {0} × (Unit {0} × Unit {0}))). ‵ (lasts callee.ended (ν ∷ [], tt) (lends-it l₅ δ, (port, (byte, tt))) zs) ⊛ raw (fact 𝓤 (wrote_over u zs.0 ≡ port_writes (lent (take n xs)) port byte)))) (id⊢ 𝓤 _) $ pick ! (λ zs.
+        split ! $ move ! (1 ∷ []) $ heard ! (wrote_over u zs.0 ≡ port_writes (lent (take n xs)) port byte) (λ e. fsplit ! $ fsplit ! $
         -- [the last list; its length; …; the token and the result; what is kept; the way back; the locals]
         move ! (3 ∷ []) $ split ! $ move ! (1 ∷ []) $ facts ! An.the_row (Is An.the_row) (shows 𝓛 An.the_row) u (w ∷ []) (λ is-u. land ! (from ! (stop !)) (init ! 12 refl ((EL.lawful An.the_type An'.the_laws 𝓛 tt).typed u _ is-u).0) $
         -- the lifetime is ended, and the cards come back, and go back into the local's cell
@@ -214,6 +214,6 @@ write_spec 𝓤 𝓛 𝓜 𝓡 =
     entered 𝓤 𝓛.H (triple_of 𝓛 own.signature (own.spec 𝓛 𝓜.mem 𝓡.run))
     (tables 𝓤 𝓛.H 𝓜 𝓡 code.env).C (tables 𝓤 𝓛.H 𝓜 𝓡 code.env).Λ #own code.function (code.unfolded 𝓤 𝓛.H 𝓜 𝓡)
     (meets 𝓛 𝓜.mem 𝓡.run (tables_of 𝓤 𝓛.H 𝓜 (tables 𝓤 𝓛.H 𝓜 𝓡 code.env)) (record {
-      lends-to = cited 𝓤 𝓛.H (Callee 𝓛 𝓜.mem 𝓡.run) 𝓜 𝓡 code.env #lent-port·write callee-def.routine code.calls-lent-port::write (callee-thm.met 𝓤 𝓛 𝓜 𝓡);
-      joins-by = cited 𝓤 𝓛.H (After 𝓛 𝓜.mem 𝓡.run) 𝓜 𝓡 code.env #port·lend·after-write after-def.routine code.calls-port::lend::after-write (after-thm.met 𝓤 𝓛 𝓜 𝓡);
+      lends-to = cited 𝓤 𝓛.H (Callee 𝓛 𝓜.mem 𝓡.run) 𝓜 𝓡 code.env #lent_port·write callee_def.routine code.calls-lent-port::write (callee_thm.met 𝓤 𝓛 𝓜 𝓡);
+      joins-by = cited 𝓤 𝓛.H (After 𝓛 𝓜.mem 𝓡.run) 𝓜 𝓡 code.env #port·lend·after-write after_def.routine code.calls-port::lend::after-write (after_thm.met 𝓤 𝓛 𝓜 𝓡);
     }))

@@ -1,10 +1,10 @@
 -- Cites the theorem. Assumes nothing.
-use Rattle.fits.proofs.Order.{refusals-come-in-order}
+use Rattle.fits.proofs.Order.{refusals_come_in_order_lem}
 use Rattle.promises.proofs.beside.refusals_come_in_order.Statement.{statement}
 use Rattle.promises.proofs.beside.refusals_come_in_order.Tie as tie
 
 returns : tie.Need-returns
-returns c = refusals-come-in-order
+returns c = refusals_come_in_order_lem
 
 pub refusals-come-in-order-spec : {M : Type 1} → statement M
 refusals-come-in-order-spec = tie.close (tie.spec returns)

@@ -4,19 +4,19 @@ use Prim.Native.Nat.{◌-◌, ◌≤◌}
 use native.Mathlib.Omega.{arith}
 use borrow.Author.Rules.{rules}
 use Rattle.store.specs.Store.{part}
-use Rattle.transmit_rules.specs.QueueView.{goodWords}
+use Rattle.transmit_rules.specs.QueueView.{good_words}
 use Rattle.transmit_rules.proofs.QueueSound.{good_more}
 use Rattle.queue.proofs.good.good_words.Statement.{statement}
 use Rattle.queue.proofs.good.good_words.Tie as tie
 
 abbrev invariant-loop : tie.invariant-loop
-invariant-loop dir n good₀ i₀ good i = (i ≤ n) × (good ≡ goodWords (part 768 i dir))
+invariant-loop dir n good₀ i₀ good i = (i ≤ n) × (good ≡ good_words (part 768 i dir))
 
 abbrev decreases-loop : tie.decreases-loop
 decreases-loop dir n good₀ i₀ good i = n - i
 
 loop-holds : tie.Need-loop-init invariant-loop decreases-loop
-unfolding goodWords
+unfolding good_words
 loop-holds c = (omega arith, refl)
 
 loop-again : tie.Need-loop-preserved invariant-loop decreases-loop

@@ -7,7 +7,7 @@ use Rattle.queue.proofs.leaving.oldest_wanted.Statement.{statement}
 use Rattle.queue.proofs.leaving.oldest_wanted.Tie as tie
 
 shared-slice-read-has : tie.Need-shared-slice-read-has
-shared-slice-read-has c = omega (arith, c.before.before.before.requires.0.packed.lies.in-dir)
+shared-slice-read-has c = omega (arith, c.before.before.before.requires.0.packed.lies.in_dir)
 
 returns : tie.Need-returns
 returns c =

@@ -3,7 +3,7 @@ use mathlib.Core.Path.{refl}
 use Prim.Native.Nat.{◌-◌}
 use native.Mathlib.Omega.{arith}
 use borrow.Author.Rules.{rules}
-use Rattle.queue.proofs.Told.{Told, told_more, told-all}
+use Rattle.queue.proofs.Told.{Told, told_more, told_all}
 use Rattle.queue.proofs.telling.tell_bytes.Statement.{statement}
 use Rattle.queue.proofs.telling.tell_bytes.Tie as tie
 
@@ -35,7 +35,7 @@ returns : tie.Need-returns invariant-loop decreases-loop
 returns c =
     let s = c.before.before.before.before.args in
     let l = c.before.loop in
-    told-all s.ram.now s.out.now s.base s.len s.n l.i l.out c.before.before.before.before.requires.0 c.before.before.before.before.requires.1 c.loop-test.false l.invariant
+    told_all s.ram.now s.out.now s.base s.len s.n l.i l.out c.before.before.before.before.requires.0 c.before.before.before.before.requires.1 c.loop-test.false l.invariant
 
 pub tell-bytes-spec : {M : Type 1} → statement M
 tell-bytes-spec = tie.close (tie.spec invariant-loop decreases-loop loop-holds packet-byte-requires slice-write-out (λ c. search rules) (λ c. search rules) loop-again same_length returns)

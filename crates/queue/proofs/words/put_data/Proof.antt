@@ -3,7 +3,7 @@ use native.Mathlib.Omega.{arith}
 use borrow.Author.Rules.{rules}
 use lib.ListN.{length-set}
 use Rattle.transmit_rules.proofs.Facts.{facts}
-use Rattle.transmit_rules.proofs.Put.{room-left, data-whole, data-more}
+use Rattle.transmit_rules.proofs.Put.{room-left, data_whole, data_more}
 use Rattle.queue.proofs.words.put_data.Statement.{statement}
 use Rattle.queue.proofs.words.put_data.Tie as tie
 
@@ -11,7 +11,7 @@ slice-write-ram : tie.Need-slice-write-ram
 slice-write-ram c =
     let s = c.args in
     let R = room-left s.size s.v s.at s.f s.ram.now s.dir.now c.requires.0.0 c.requires.0.1 c.requires.0.2 c.requires.1 in
-    omega (arith, R.high, R.in-ram)
+    omega (arith, R.high, R.in_ram)
 
 add-ram : tie.Need-overflow-add-ram
 add-ram c =
@@ -23,24 +23,24 @@ slice-write-ram-2 : tie.Need-slice-write-ram-2
 slice-write-ram-2 c =
     let s = c.args in
     let R = room-left s.size s.v s.at s.f s.ram.now s.dir.now c.requires.0.0 c.requires.0.1 c.requires.0.2 c.requires.1 in
-    simp length-set (omega (arith, R.high, R.in-ram))
+    simp length-set (omega (arith, R.high, R.in_ram))
 
 shared-slice-read-len : tie.Need-shared-slice-read-len
 shared-slice-read-len c =
     let s = c.before.args in
-    omega (arith, (facts s.size s.f s.ram.now s.dir.now c.before.requires.0.0).place, c.before.requires.0.0.packed.lies.in-dir)
+    omega (arith, (facts s.size s.f s.ram.now s.dir.now c.before.requires.0.0).place, c.before.requires.0.0.packed.lies.in_dir)
 
 returns : tie.Need-returns
 returns c =
     let o = c.before.before.before in
     let s = o.args in
-    data-whole s.size s.v s.at s.f s.ram.now s.dir.now o.requires.0.0 o.requires.0.1 o.requires.0.2 o.requires.1 c.before.if1.true
+    data_whole s.size s.v s.at s.f s.ram.now s.dir.now o.requires.0.0 o.requires.0.1 o.requires.0.2 o.requires.1 c.before.if1.true
 
 returns-2 : tie.Need-returns-2
 returns-2 c =
     let o = c.before.before.before in
     let s = o.args in
-    data-more s.size s.v s.at s.f s.ram.now s.dir.now o.requires.0.0 o.requires.0.1 o.requires.0.2 o.requires.1 c.before.if1.false
+    data_more s.size s.v s.at s.f s.ram.now s.dir.now o.requires.0.0 o.requires.0.1 o.requires.0.2 o.requires.1 c.before.if1.false
 
 pub put-data-spec : {M : Type 1} → statement M
 put-data-spec =

@@ -5,7 +5,7 @@ use Prim.Native.Nat.{ℕ}
 use native.Mathlib.Omega.{arith}
 use borrow.Author.Rules.{rules}
 use Rattle.transmit_rules.specs.Write.{put}
-use Rattle.transmit_rules.specs.QueueView.{queueOf, Turns}
+use Rattle.transmit_rules.specs.QueueView.{queue_of, Turns}
 use Rattle.transmit_rules.proofs.Facts.{facts, words_of}
 use Rattle.transmit_rules.proofs.Put.{put-bad, turns-fails, opens}
 use Rattle.queue.proofs.words.put_first.Statement.{statement}
@@ -15,7 +15,7 @@ slice-write-dir : tie.Need-slice-write-dir
 slice-write-dir c =
     let s = c.before.args in
     let p = c.before.requires in
-    omega (arith, (facts s.size s.f s.ram.now s.dir.now p.0).place, p.0.packed.lies.in-dir)
+    omega (arith, (facts s.size s.f s.ram.now s.dir.now p.0).place, p.0.packed.lies.in_dir)
 
 returns : tie.Need-returns
 returns c =
@@ -27,7 +27,7 @@ returns-2 : tie.Need-returns-2
 returns-2 c =
     let s = c.before.args in
     let p = c.before.requires in
-    let q = queueOf s.size s.f s.ram.now s.dir.now in
+    let q = queue_of s.size s.f s.ram.now s.dir.now in
     let bad = put-bad s.size s.v q p.1 p.3 (words_of s.size s.f.packets s.f.words s.ram.now s.dir.now ∙ p.2) c.if1.false in
     subst (λ (k : ℕ). Turns s.size (record { failed = true; free = s.f.free; packets = s.f.packets; words = k }) s.ram.now s.dir.now s.ram.now s.dir.now (put s.size s.v q)) p.2
     (turns-fails s.size s.v s.f s.ram.now s.dir.now p.0.packed bad)

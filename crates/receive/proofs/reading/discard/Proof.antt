@@ -5,13 +5,13 @@ use mathlib.Core.Path.{◌≡◌}
 use Prim.Native.Nat.{◌+◌, ◌%◌, ◌≤◌}
 use native.Mathlib.Omega.{arith}
 use lib.ListN.{get_or}
-use Rattle.store.specs.Store.{round4, roomOf, words}
-use Rattle.receive_rules.specs.Reading.{discard, withoutOldest}
-use Rattle.receive_rules.specs.View.{rxArea}
+use Rattle.store.specs.Store.{round4, room_of, words}
+use Rattle.receive_rules.specs.Reading.{discard, without_oldest}
+use Rattle.receive_rules.specs.View.{rx_area}
 use Rattle.receive_rules.proofs.Laws.{coming-word}
 use Rattle.receive_rules.proofs.Oldest.{none, shown-first}
 use Rattle.receive_rules.proofs.Steps.{step_same, step-turns}
-use Rattle.receive.proofs.Free.{free-shared, free-most, free-left}
+use Rattle.receive.proofs.Free.{free_shared, free-most, free-left}
 use Rattle.receive.proofs.Word.{oldest-leaves}
 use Rattle.receive.proofs.reading.discard.Statement.{statement}
 use Rattle.receive.proofs.reading.discard.Tie as tie
@@ -24,7 +24,7 @@ returns c =
     step_same s.size s.r s.ram.now s.dir.now _ o.requires.packed (rw c.if1.true)
 
 returns-2 : tie.Need-returns-2
-unfolding discard withoutOldest
+unfolding discard without_oldest
 returns-2 c =
     let o = c.before.before.before.before in
     let s = o.args in
@@ -41,11 +41,11 @@ add_free : tie.Need-overflow-add-free
 add_free c = omega (arith, within c.before.before.before.before.before.before.before c.before.before.before.if2.false, c.before.room.ensures)
 
 -- the frames take what is not free
-shared : (o : tie.Start) → o.args.r.free + roomOf (words (rxArea o.args.size) o.args.r.frames o.args.dir.now) ≡ o.args.size
+shared : (o : tie.Start) → o.args.r.free + room_of (words (rx_area o.args.size) o.args.r.frames o.args.dir.now) ≡ o.args.size
 shared o =
     let s = o.args in
     let p = o.requires.packed in
-    free-shared s.size s.r.frames s.r.free s.ram.now s.dir.now p.lies p.counted
+    free_shared s.size s.r.frames s.r.free s.ram.now s.dir.now p.lies p.counted
 
 sub-drop-first : tie.Need-overflow-sub-drop-first
 sub-drop-first c = omega (arith, shared c.before.before.before.before.before.before.before.before.before.before)
@@ -56,7 +56,7 @@ drop-first-requires c κs =
     (o.requires.packed.lies, omega (arith, c.before.before.before.before.before.before.if2.false), omega (arith, shared o))
 
 returns-3 : tie.Need-returns-3
-unfolding discard withoutOldest
+unfolding discard without_oldest
 returns-3 c =
     let o = c.before.before.before.before.before.before.before.before.before.before.before.before.before.before.before.before.before.before.before.before in
     let s = o.args in
@@ -68,7 +68,7 @@ returns-3 c =
     (rw (c.before.before.before.before.before.before.before.before.before.before.before.before.before.before.before.before.before.if1.false, shown-first s.size s.r.frames s.ram.now s.dir.now p.lies some, coming-word, le-leb _ _ c.before.if3.true))
 
 returns-4 : tie.Need-returns-4
-unfolding discard withoutOldest
+unfolding discard without_oldest
 returns-4 c =
     let o = c.before.before.before.before.before.before.before.before.before.before.before.before.before.before.before.before.before.before.before in
     let s = o.args in

@@ -12,8 +12,8 @@ use mir.Val.{SFits, to_z, of_z}
 use mir.ValLaws.{to_z_pos, to_z-of_z}
 use Rattle.bits.proofs.Tests.{of_test}
 use Rattle.receive_rules.proofs.Count.{between-small, count-between}
-use Rattle.receive_rules.specs.Reading.{unreadIn}
-use Rattle.receive_rules.specs.View.{framesOf, rxOf}
+use Rattle.receive_rules.specs.Reading.{unread_in}
+use Rattle.receive_rules.specs.View.{frames_of, rx_of}
 use Rattle.receive.proofs.reading.left.Statement.{statement}
 use Rattle.receive.proofs.reading.left.Tie as tie
 
@@ -36,10 +36,10 @@ module _ (u : ℤ) (p : ℕ) (f : SFits w16 u) (s : mag u < 2048) (l : p < 4) wh
 pad-requires : tie.Need-pad-requires
 pad-requires c κs = c.before.before.before.requires.packed.lies
 
-few : (o : tie.Start) (u : ℤ) → u ≡ unreadIn o.args.r.receiver.read (framesOf o.args.size o.args.r.frames o.args.ram.now o.args.dir.now) → mag u < 2048
+few : (o : tie.Start) (u : ℤ) → u ≡ unread_in o.args.r.receiver.read (frames_of o.args.size o.args.r.frames o.args.ram.now o.args.dir.now) → mag u < 2048
 few o u e =
     let s = o.args in
-    subst (λ (z : ℤ). mag z < 2048) (sym e) (between-small _ (count-between s.size (rxOf s.size s.r s.ram.now s.dir.now) o.requires.calm))
+    subst (λ (z : ℤ). mag z < 2048) (sym e) (between-small _ (count-between s.size (rx_of s.size s.r s.ram.now s.dir.now) o.requires.calm))
 
 add-result : tie.Need-overflow-add-result
 add-result c =

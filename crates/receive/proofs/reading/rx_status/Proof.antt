@@ -8,8 +8,8 @@ use lib.IntN.{ℤ}
 use lib.ListN.{get_or}
 use lib.Signed.{mag}
 use Rattle.receive_rules.specs.Count.{unread, encoded}
-use Rattle.receive_rules.specs.Reading.{rxStatus, unreadIn}
-use Rattle.receive_rules.specs.View.{framesOf, rxOf}
+use Rattle.receive_rules.specs.Reading.{rx_status, unread_in}
+use Rattle.receive_rules.specs.View.{frames_of, rx_of}
 use Rattle.receive_rules.proofs.Count.{back, between-small, count-between}
 use Rattle.receive_rules.proofs.Oldest.{none}
 use Rattle.receive.proofs.Word.{unread-some, status-some, marks-coming, marks-damaged, marks-whole}
@@ -17,18 +17,18 @@ use Rattle.receive.proofs.reading.rx_status.Statement.{statement}
 use Rattle.receive.proofs.reading.rx_status.Tie as tie
 
 returns : tie.Need-returns
-unfolding rxStatus
+unfolding rx_status
 returns c = rw (none _ _ _ _ c.if1.true)
 
 encoded-requires : tie.Need-encoded-requires
 encoded-requires c κs =
     let o = c.before.before.before.before.before in
     let s = o.args in
-    subst (λ (z : ℤ). mag z < 2048) (sym (back c.unread.result c.unread.type-inv ∙ c.unread.ensures)) (between-small _ (count-between s.size (rxOf s.size s.r s.ram.now s.dir.now) o.requires.calm))
+    subst (λ (z : ℤ). mag z < 2048) (sym (back c.unread.result c.unread.type-inv ∙ c.unread.ensures)) (between-small _ (count-between s.size (rx_of s.size s.r s.ram.now s.dir.now) o.requires.calm))
 
 -- what is told is the count of the oldest frame
 module _ (o : tie.Start) (h : o.args.r.frames ≡ 0 → ⊥) (told : ℕ) (u : ℤ)
-    (e : told ≡ encoded u) (f : u ≡ unreadIn o.args.r.receiver.read (framesOf o.args.size o.args.r.frames o.args.ram.now o.args.dir.now)) where
+    (e : told ≡ encoded u) (f : u ≡ unread_in o.args.r.receiver.read (frames_of o.args.size o.args.r.frames o.args.ram.now o.args.dir.now)) where
   shown : told ≡ encoded (unread (get_or o.args.dir.now 0 0 % 2048) o.args.r.receiver.read)
   shown =
       let s = o.args in

@@ -5,26 +5,26 @@ use mathlib.Core.Bool.{Bool, ◌&&◌}
 use Prim.Native.Nat.{◌≤◌, ◌-◌}
 use native.Mathlib.Omega.{arith}
 use lib.ListN.{take, get_or}
-use Rattle.receive_rules.specs.View.{allEnded, endedWord}
+use Rattle.receive_rules.specs.View.{all_ended, ended_word}
 use Rattle.receive_rules.proofs.Order.{all_more}
 use Rattle.receive.proofs.sound.all_ended.Statement.{statement}
 use Rattle.receive.proofs.sound.all_ended.Tie as tie
 
 abbrev invariant-loop : tie.invariant-loop
-invariant-loop dir count good₀ i₀ good i = (i ≤ count) × (good ≡ allEnded (take i dir))
+invariant-loop dir count good₀ i₀ good i = (i ≤ count) × (good ≡ all_ended (take i dir))
 
 abbrev decreases-loop : tie.decreases-loop
 decreases-loop dir count good₀ i₀ good i = count - i
 
 loop-holds : tie.Need-loop-init invariant-loop decreases-loop
-unfolding allEnded
+unfolding all_ended
 loop-holds c = (omega arith, refl)
 
 loop-again : tie.Need-loop-preserved invariant-loop decreases-loop
 loop-again c =
     let l = c.before.before.loop in
     let s = c.before.before.before.args in
-    (omega arith, ap (λ (t : Bool). t && endedWord (get_or s.dir.now l.i 0)) l.invariant.1 ∙ all_more s.dir.now l.i (omega arith))
+    (omega arith, ap (λ (t : Bool). t && ended_word (get_or s.dir.now l.i 0)) l.invariant.1 ∙ all_more s.dir.now l.i (omega arith))
 
 returns : tie.Need-returns invariant-loop decreases-loop
 returns c =

@@ -6,8 +6,8 @@ use mathlib.Core.Bool.{Bool, ◌&&◌}
 use lib.Dec.{leb}
 use lib.ListN.{get_or}
 use Prim.Native.Nat.{◌-◌, ◌%◌}
-use Rattle.receive_rules.specs.Sound.{inOrder, sized}
-use Rattle.receive_rules.proofs.Order.{order-idle, order-busy}
+use Rattle.receive_rules.specs.Sound.{in_order, sized}
+use Rattle.receive_rules.proofs.Order.{order-idle, order_busy}
 use Rattle.receive_rules.proofs.Oldest.{none}
 use Rattle.receive.proofs.sound.in_order.Statement.{statement}
 use Rattle.receive.proofs.sound.in_order.Tie as tie
@@ -18,7 +18,7 @@ returns c =
     rw (not-true s.storing c.before.if1.true) (c.all-ended.ensures ∙ order-idle s.size s.count s.ram.now s.dir.now c.before.before.before.before.requires)
 
 returns-2 : tie.Need-returns-2
-unfolding inOrder
+unfolding in_order
 returns-2 c =
     let s = c.before.before.before.before.args in
     rw (not-false s.storing c.before.if1.false, none s.size s.count s.ram.now s.dir.now c.if2.true)
@@ -28,7 +28,7 @@ returns-3 c =
     let s = c.before.before.before.before.before.before.args in
     let w = get_or s.dir.now (s.count - 1) 0 in
     rw (not-false s.storing c.before.before.before.if1.false)
-    (ap (λ (t : Bool). t && (sized (w % 2048) && leb 32768 w)) c.all-ended2.ensures ∙ order-busy s.size s.count s.ram.now s.dir.now c.before.before.before.before.before.before.requires c.before.before.if2.false)
+    (ap (λ (t : Bool). t && (sized (w % 2048) && leb 32768 w)) c.all-ended2.ensures ∙ order_busy s.size s.count s.ram.now s.dir.now c.before.before.before.before.before.before.requires c.before.before.if2.false)
 
 pub in-order-spec : {M : Type 1} → statement M
 in-order-spec =

@@ -5,19 +5,19 @@ use mathlib.Core.Path.{◌≡◌, sym}
 use Prim.Native.Nat.{ℕ, ◌+◌, ◌≤◌}
 use native.Mathlib.Omega.{arith}
 use Rattle.store.specs.Store as store
-use Rattle.receive_rules.specs.View.{soundSide, Packed}
-use Rattle.receive_rules.proofs.Order.{room_of}
-use Rattle.receive.proofs.Free.{sum-small, sum-right, sum-wrong}
+use Rattle.receive_rules.specs.View.{sound_side, Packed}
+use Rattle.receive_rules.proofs.Order.{room_of_lem}
+use Rattle.receive.proofs.Free.{sum-small, sum_right, sum_wrong}
 use Rattle.receive.proofs.sound.rx_sound.Statement.{statement}
 use Rattle.receive.proofs.sound.rx_sound.Tie as tie
 
 -- where the two tests before the others say so
-packed : (c : tie.Start) (used : ℕ) → c.args.r.frames ≤ 768 → used ≡ store.roomOf (store.part 0 c.args.r.frames c.args.dir.now) → used + c.args.r.free ≡ c.args.size
+packed : (c : tie.Start) (used : ℕ) → c.args.r.frames ≤ 768 → used ≡ store.room_of (store.part 0 c.args.r.frames c.args.dir.now) → used + c.args.r.free ≡ c.args.size
     → Packed c.args.size c.args.r c.args.ram.now c.args.dir.now
-packed c used few u e = sum-right c.args.size c.args.r c.args.ram.now c.args.dir.now (omega arith) (omega arith) few (omega arith)
+packed c used few u e = sum_right c.args.size c.args.r c.args.ram.now c.args.dir.now (omega arith) (omega arith) few (omega arith)
 
 returns : tie.Need-returns
-unfolding soundSide
+unfolding sound_side
 returns c = rw (lt-leb _ _ c.if1.true)
 
 add-if2 : tie.Need-overflow-add-if2
@@ -29,7 +29,7 @@ returns-2 : tie.Need-returns-2
 returns-2 c =
     let s = c.before.before.before.before.before.before.args in
     let u = c.before.before.used.ensures in
-    sym (sum-wrong s.size s.r s.ram.now s.dir.now (omega arith) (omega arith) c.before.before.before.if1.false (λ e. c.if2.true (omega (arith, u))))
+    sym (sum_wrong s.size s.r s.ram.now s.dir.now (omega arith) (omega arith) c.before.before.before.if1.false (λ e. c.if2.true (omega (arith, u))))
 
 in-order-requires : tie.Need-in-order-requires
 in-order-requires c κs = (packed c.before.before.before.before.before.before.before _ c.before.before.before.before.if1.false c.before.before.before.used.ensures c.before.if2.false).lies
@@ -41,14 +41,14 @@ early-settled-requires : tie.Need-early-settled-requires
 early-settled-requires c κs = (packed c.before.before.before.before.before.before.before.before.before _ c.before.before.before.before.before.before.if1.false c.before.before.before.before.before.used.ensures c.before.before.before.if2.false).lies
 
 returns-3 : tie.Need-returns-3
-unfolding soundSide
+unfolding sound_side
 returns-3 c =
     let o = c.before.before.before.before.before.before.before.before.before.before.before.before.before.before.before in
     let s = o.args in
     let few = c.before.before.before.before.before.before.before.before.before.before.before.before.if1.false in
     let P = packed o _ few c.before.before.before.before.before.before.before.before.before.before.before.used.ensures c.before.before.before.before.before.before.before.before.before.if2.false in
-    let k = le-leb (store.roomOf (store.part 0 s.r.frames s.dir.now)) s.size P.lies.room in
-    rw (c.before.before.before.before.before.early-settled.ensures, c.before.before.before.before.before.before.readable-bytes.ensures.0, c.before.before.before.before.before.before.before.in_order.ensures, le-leb _ _ few, eq-eqb _ _ P.counted, room_of s.size s.r.frames s.ram.now s.dir.now P.lies, k)
+    let k = le-leb (store.room_of (store.part 0 s.r.frames s.dir.now)) s.size P.lies.room in
+    rw (c.before.before.before.before.before.early-settled.ensures, c.before.before.before.before.before.before.readable-bytes.ensures.0, c.before.before.before.before.before.before.before.in_order.ensures, le-leb _ _ few, eq-eqb _ _ P.counted, room_of_lem s.size s.r.frames s.ram.now s.dir.now P.lies, k)
 
 pub rx-sound-spec : {M : Type 1} → statement M
 rx-sound-spec =

@@ -1,8 +1,8 @@
 -- `wire::store_byte` meets its contract: the three ways of `Paths`, one for each return. Assumes nothing.
 use borrow.Author.Rules.{rules}
 use native.Mathlib.Omega.{arith}
-use Rattle.receive.proofs.Free.{free-shared}
-use Rattle.receive.proofs.Paths.{newest-of, byte-dropped, byte-marks, byte-taken, byte-open}
+use Rattle.receive.proofs.Free.{free_shared}
+use Rattle.receive.proofs.Paths.{newest_of, byte-dropped, byte-marks, byte-taken, byte_open}
 use Rattle.receive.proofs.wire.store_byte.Statement.{statement}
 use Rattle.receive.proofs.wire.store_byte.Tie as tie
 
@@ -18,14 +18,14 @@ sub-older : tie.Need-overflow-sub-older
 sub-older c =
     let o = c.before.before.before.before in
     let s = o.args in
-    omega (arith, free-shared s.size s.count s.free s.ram.now s.dir.now o.requires.0.0 o.requires.1)
+    omega (arith, free_shared s.size s.count s.free s.ram.now s.dir.now o.requires.0.0 o.requires.1)
 
 sub-older-2 : tie.Need-overflow-sub-older-2
 sub-older-2 c =
     let o = c.before.before.before.before.before in
     let s = o.args in
     let p = o.requires.0 in
-    omega (arith, c.room.ensures, free-shared s.size s.count s.free s.ram.now s.dir.now p.0 o.requires.1, (newest-of s.size s.count s.ram.now s.dir.now p.0 p.1).sum)
+    omega (arith, c.room.ensures, free_shared s.size s.count s.free s.ram.now s.dir.now p.0 o.requires.1, (newest_of s.size s.count s.ram.now s.dir.now p.0 p.1).sum)
 
 returns-2 : tie.Need-returns-2
 returns-2 c =
@@ -40,7 +40,7 @@ append-byte-requires c κs =
     let o = c.before.before.before.before.before.before.before.before in
     let s = o.args in
     let p = o.requires.0 in
-    (p.0, byte-open s.size s.count s.b s.free s.ram.now s.dir.now p.0 p.1 o.requires.1 _ (omega (arith, c.before.before.before.room.ensures)) c.before.before.before.before.if1.false c.before.before.if2.false)
+    (p.0, byte_open s.size s.count s.b s.free s.ram.now s.dir.now p.0 p.1 o.requires.1 _ (omega (arith, c.before.before.before.room.ensures)) c.before.before.before.before.if1.false c.before.before.if2.false)
 
 returns-3 : tie.Need-returns-3
 returns-3 c =

@@ -1,14 +1,14 @@
 -- `wire::wire_byte` meets its contract: where the wire stores its frame the newest takes the byte, and else nothing changes. Assumes nothing.
 use borrow.Author.Rules.{rules}
 use borrow.Author.Tests.{eq-eqb, ne_eqb}
-use Rattle.receive_rules.specs.Wire.{wireByte}
+use Rattle.receive_rules.specs.Wire.{wire_byte}
 use Rattle.receive_rules.proofs.Facts.{stored-order, stored_some}
 use Rattle.receive_rules.proofs.Steps.{step_same, step-turns}
 use Rattle.receive.proofs.wire.wire_byte.Statement.{statement}
 use Rattle.receive.proofs.wire.wire_byte.Tie as tie
 
 returns : tie.Need-returns
-unfolding wireByte
+unfolding wire_byte
 returns c =
     let o = c.before.before.before.before in
     let s = o.args in
@@ -23,7 +23,7 @@ store-byte-requires c κs =
     ((p.packed.lies, stored_some s.size s.r s.ram.now s.dir.now p h, p.small, stored-order s.size s.r s.ram.now s.dir.now p h), p.packed.counted)
 
 returns-2 : tie.Need-returns-2
-unfolding wireByte
+unfolding wire_byte
 returns-2 c =
     let s = c.before.before.before.before.before.before.before.before.before.before.before.args in
     let e = c.before.before.before.before.IsStore-byte.ensures in

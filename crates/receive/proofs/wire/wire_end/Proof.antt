@@ -4,7 +4,7 @@ use borrow.Author.Tests.{eq-eqb, ne_eqb}
 use mathlib.Core.Path.{◌≡◌}
 use Prim.Native.Nat.{◌<◌}
 use native.Mathlib.Omega.{arith}
-use Rattle.receive_rules.specs.Wire.{wireEnd}
+use Rattle.receive_rules.specs.Wire.{wire_end}
 use Rattle.receive_rules.proofs.Facts.{stored_some}
 use Rattle.receive_rules.proofs.Steps.{step_same, step-turns}
 use Rattle.receive.proofs.Free.{free_ended}
@@ -16,7 +16,7 @@ some : (c : tie.Start) → c.args.r.receiver.wire ≡ 2 → 0 < c.args.r.frames
 some c h = stored_some c.args.size c.args.r c.args.ram.now c.args.dir.now c.requires h
 
 returns : tie.Need-returns
-unfolding wireEnd
+unfolding wire_end
 returns c =
     let o = c.before.before.before.before.before in
     let s = o.args in
@@ -29,7 +29,7 @@ slice-read-last : tie.Need-slice-read-last
 slice-read-last c =
     let o = c.before.before.before.before.before.before in
     let p = o.requires.packed.lies in
-    omega (arith, some o c.before.if1.false, p.in-dir, p.few)
+    omega (arith, some o c.before.if1.false, p.in_dir, p.few)
 
 set-head-requires : tie.Need-set-head-requires
 set-head-requires c κs =
@@ -37,7 +37,7 @@ set-head-requires c κs =
     (o.requires.packed.lies, some o c.before.before.before.if1.false, c.end-head.ensures.1)
 
 returns-2 : tie.Need-returns-2
-unfolding wireEnd
+unfolding wire_end
 returns-2 c =
     let o = c.before.before.before.before.before.before.before.before.before.before.before in
     let s = o.args in

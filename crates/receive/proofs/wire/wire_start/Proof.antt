@@ -8,20 +8,20 @@ use native.Mathlib.Omega.{arith}
 use lib.Dec.{leb, eqb, lit<, lit≤}
 use lib.ListN.{length}
 use Rattle.store.specs.Store as store
-use Rattle.receive_rules.specs.Wire.{wireStart, begins, fits8}
-use Rattle.receive_rules.specs.View.{rxArea, framesOf}
+use Rattle.receive_rules.specs.Wire.{wire_start, begins, fits8}
+use Rattle.receive_rules.specs.View.{rx_area, frames_of}
 use Rattle.bits.proofs.Tests.{both}
 use Rattle.receive_rules.proofs.Facts.{facts}
-use Rattle.receive_rules.proofs.Order.{place-left, room_in}
+use Rattle.receive_rules.proofs.Order.{place-left, room_in_lem}
 use Rattle.receive_rules.proofs.Steps.{step_same, step-turns}
-use Rattle.receive.proofs.Free.{free-shared, free-fits, free-begun}
-use Rattle.receive.proofs.Paths.{start-open, start-turns}
+use Rattle.receive.proofs.Free.{free_shared, free-fits, free-begun}
+use Rattle.receive.proofs.Paths.{start_open, start-turns}
 use Rattle.receive.proofs.wire.wire_start.Statement.{statement}
 use Rattle.receive.proofs.wire.wire_start.Tie as tie
 
 -- the code's test is the definition's
 same_test : (c : tie.Start) (t : Bool) → (c.args.taken && (c.args.r.receiver.on && leb 8 c.args.r.free)) ≡ t
-    → (c.args.taken && (c.args.r.receiver.on && fits8 c.args.size (framesOf c.args.size c.args.r.frames c.args.ram.now c.args.dir.now))) ≡ t
+    → (c.args.taken && (c.args.r.receiver.on && fits8 c.args.size (frames_of c.args.size c.args.r.frames c.args.ram.now c.args.dir.now))) ≡ t
 same_test c t h =
     let s = c.args in
     let p = c.requires.0.packed in
@@ -35,11 +35,11 @@ eight : (c : tie.Start) → (c.args.taken && (c.args.r.receiver.on && leb 8 c.ar
 eight c h = fitting c.args.taken c.args.r.receiver.on 8 c.args.r.free h
 
 -- the frames take what is not free
-shared : (c : tie.Start) → c.args.r.free + store.roomOf (store.words (rxArea c.args.size) c.args.r.frames c.args.dir.now) ≡ c.args.size
+shared : (c : tie.Start) → c.args.r.free + store.room_of (store.words (rx_area c.args.size) c.args.r.frames c.args.dir.now) ≡ c.args.size
 shared c =
     let s = c.args in
     let p = c.requires.0.packed in
-    free-shared s.size s.r.frames s.r.free s.ram.now s.dir.now p.lies p.counted
+    free_shared s.size s.r.frames s.r.free s.ram.now s.dir.now p.lies p.counted
 
 begin-requires : tie.Need-begin-requires
 begin-requires c κs =
@@ -65,15 +65,15 @@ append-bytes-requires c κs =
     let s = o.args in
     let B = c.before.before.before.before.before.begin.ensures in
     let n8 : length s.t6 ≡ 8 = sym (counted c) in
-    let fs = store.view (rxArea s.size) s.r.frames s.ram.now s.dir.now in
-    let e : s.size - s.r.free ≡ store.roomIn fs = omega (arith, room_in s.size s.r.frames s.ram.now s.dir.now o.requires.0.packed.lies, shared o) in
-    (B.sound, rw (B.holds, n8) (start-open s.size (s.size - s.r.free) 8 16 fs e (lit≤ tt) (omega (arith, eight o c.before.before.before.before.before.before.before.before.if1.true, shared o, e))))
+    let fs = store.view (rx_area s.size) s.r.frames s.ram.now s.dir.now in
+    let e : s.size - s.r.free ≡ store.room_in fs = omega (arith, room_in_lem s.size s.r.frames s.ram.now s.dir.now o.requires.0.packed.lies, shared o) in
+    (B.sound, rw (B.holds, n8) (start_open s.size (s.size - s.r.free) 8 16 fs e (lit≤ tt) (omega (arith, eight o c.before.before.before.before.before.before.before.before.if1.true, shared o, e))))
 
 sub-left : tie.Need-overflow-sub-left
 sub-left c = eight c.before.before.before.before.before.before.before.before.before.before.before.before.before.before.before.before.before c.before.before.before.before.before.before.before.before.before.before.before.before.before.if1.true
 
 returns : tie.Need-returns
-unfolding wireStart begins
+unfolding wire_start begins
 returns c =
     let o = c.before.before.before.before.before.before.before.before.before.before.before.before.before.before.before.before.before.before in
     let s = o.args in
@@ -85,7 +85,7 @@ returns c =
     (rw t)
 
 returns-2 : tie.Need-returns-2
-unfolding wireStart begins
+unfolding wire_start begins
 returns-2 c =
     let o = c.before.before.before.before.before in
     let s = o.args in

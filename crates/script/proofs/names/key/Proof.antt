@@ -4,14 +4,14 @@ use mathlib.Core.Path.{◌≡◌, refl, sym, ◌∙◌}
 use native.Mathlib.Omega.{arith}
 use lib.ListN.{length, drop, get_or-eq_default}
 use borrow.Author.Tests.{eq-eqb, ne_eqb}
-use Rattle.bench_rules.specs.Script.{keyOn, key_of}
-use Rattle.bench_rules.proofs.Lines.{key_more, key-long, key-end}
+use Rattle.bench_rules.specs.Script.{key_on, key_of}
+use Rattle.bench_rules.proofs.Lines.{key_more, key_long, key_end}
 use Rattle.script.proofs.names.key.Statement.{statement}
 use Rattle.script.proofs.names.key.Tie as tie
 use borrow.Author.Rules.{rules}
 
 abbrev invariant-loop : tie.invariant-loop
-invariant-loop word n₀ i₀ n i = (i ≤ length word) × (keyOn n (drop i word) ≡ keyOn 0 word)
+invariant-loop word n₀ i₀ n i = (i ≤ length word) × (key_on n (drop i word) ≡ key_on 0 word)
 
 abbrev decreases-loop : tie.decreases-loop
 decreases-loop word n₀ i₀ n i = length word - i
@@ -32,7 +32,7 @@ loop-holds c = (omega arith, refl)
 
 returns-3 : tie.Need-returns-3 invariant-loop decreases-loop
 unfolding key_of
-returns-3 c = rw (ne_eqb _ _ c.before.before.before.if2.false) (sym (key-long c.before.before.loop.n c.before.before.before.before.before.before.before.args.word.now c.before.before.loop.i c.before.loop-test.true c.if3.true) ∙ c.before.before.loop.invariant.1)
+returns-3 c = rw (ne_eqb _ _ c.before.before.before.if2.false) (sym (key_long c.before.before.loop.n c.before.before.before.before.before.before.before.args.word.now c.before.before.loop.i c.before.loop-test.true c.if3.true) ∙ c.before.before.loop.invariant.1)
 
 mul-n : tie.Need-overflow-mul-n invariant-loop decreases-loop
 mul-n c = search rules
@@ -60,7 +60,7 @@ loop-again c = (omega arith, rw c.wide.ensures.0 (sym (key_more c.before.before.
 
 returns-4 : tie.Need-returns-4 invariant-loop decreases-loop
 unfolding key_of
-returns-4 c = rw (ne_eqb _ _ c.before.before.if2.false) (sym (key-end c.before.loop.n c.before.before.before.before.before.before.args.word.now c.before.loop.i c.loop-test.false) ∙ c.before.loop.invariant.1)
+returns-4 c = rw (ne_eqb _ _ c.before.before.if2.false) (sym (key_end c.before.loop.n c.before.before.before.before.before.before.args.word.now c.before.loop.i c.loop-test.false) ∙ c.before.loop.invariant.1)
 
 pub key_spec : {M : Type 1} → statement M
 key_spec =

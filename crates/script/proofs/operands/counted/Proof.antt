@@ -2,16 +2,16 @@
 -- Assumes nothing.
 use borrow.Author.Rules.{rules}
 use borrow.Author.Tests.{ne_eqb}
-use Rattle.bench_rules.specs.Script.{countedLine}
+use Rattle.bench_rules.specs.Script.{counted_line}
 use Rattle.script.proofs.operands.counted.Statement.{statement}
 use Rattle.script.proofs.operands.counted.Tie as tie
 
 returns : tie.Need-returns
-unfolding countedLine
+unfolding counted_line
 returns c = rw (c.exactly.ensures, ne_eqb _ _ c.before.if1.true)
 
 returns-2 : tie.Need-returns-2
-unfolding countedLine
+unfolding counted_line
 returns-2 c = rw c.if1.false
 
 pub counted_spec : {M : Type 1} → statement M

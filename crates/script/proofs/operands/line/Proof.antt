@@ -1,7 +1,7 @@
-use Rattle.bench_rules.proofs.Lines.{numbers-line}
+use Rattle.bench_rules.proofs.Lines.{numbers_line_lem}
 use Rattle.script.proofs.operands.line.Statement.{statement}
 use Rattle.script.proofs.operands.line.Tie as tie
-use Rattle.bench_rules.specs.Script.{operandLine}
+use Rattle.bench_rules.specs.Script.{operand_line}
 use borrow.Author.Rules.{rules}
 
 enum_told : tie.Need-enum-told
@@ -38,48 +38,48 @@ numbers-requires : tie.Need-numbers-requires
 numbers-requires c κs = search rules
 
 same_length : tie.Need-same-length
-unfolding operandLine
+unfolding operand_line
 same_length c = c.before.before.byte-string.ensures.long
 
 returns : tie.Need-returns
-unfolding operandLine
+unfolding operand_line
 returns c = rw c.before.before.before.before.enum_told.given.1 (rw c.before.before.before.before.enum_told.given.1 at c.before.before.byte-string.ensures)
 
 same-length-2 : tie.Need-same-length-2
-unfolding operandLine
+unfolding operand_line
 same-length-2 c = c.before.before.byte-string2.ensures.long
 
 returns-2 : tie.Need-returns-2
-unfolding operandLine
+unfolding operand_line
 returns-2 c = rw c.before.before.before.before.enum-told2.given.1 (rw c.before.before.before.before.enum-told2.given.1 at c.before.before.byte-string2.ensures)
 
 same-length-3 : tie.Need-same-length-3
-unfolding operandLine
+unfolding operand_line
 same-length-3 c = c.before.before.byte-string3.ensures.long
 
 returns-3 : tie.Need-returns-3
-unfolding operandLine
+unfolding operand_line
 returns-3 c = rw c.before.before.before.before.enum-told3.given.1 (rw c.before.before.before.before.enum-told3.given.1 at c.before.before.byte-string3.ensures)
 
 same-length-4 : tie.Need-same-length-4
-unfolding operandLine
+unfolding operand_line
 same-length-4 c = c.before.before.byte-string4.ensures.long
 
 returns-4 : tie.Need-returns-4
-unfolding operandLine
+unfolding operand_line
 returns-4 c = rw c.before.before.before.before.enum-told4.given.1 (rw c.before.before.before.before.enum-told4.given.1 at c.before.before.byte-string4.ensures)
 
 same-length-5 : tie.Need-same-length-5
-unfolding operandLine
+unfolding operand_line
 same-length-5 c = c.before.before.byte-string5.ensures.long
 
 returns-5 : tie.Need-returns-5
-unfolding operandLine
+unfolding operand_line
 returns-5 c = rw c.before.before.before.before.enum-told5.given.1 (rw c.before.before.before.before.enum-told5.given.1 at c.before.before.byte-string5.ensures)
 
 returns-6 : tie.Need-returns-6
-unfolding operandLine
-returns-6 c = numbers-line c.before.before.before.before.before.before.args.kind c.before.before.before.before.before.before.args.count c.before.before.before.before.before.before.args.one.now c.before.before.before.before.before.before.args.two.now c.before.before.before.before.before.before.args.three.now c.before.before.before.before.before.before.args.bytes.now c.before.match.keys6 c.numbers.ensures
+unfolding operand_line
+returns-6 c = numbers_line_lem c.before.before.before.before.before.before.args.kind c.before.before.before.before.before.before.args.count c.before.before.before.before.before.before.args.one.now c.before.before.before.before.before.before.args.two.now c.before.before.before.before.before.before.args.three.now c.before.before.before.before.before.before.args.bytes.now c.before.match.keys6 c.numbers.ensures
 
 pub line-spec : {M : Type 1} → statement M
 line-spec =

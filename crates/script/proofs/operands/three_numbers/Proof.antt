@@ -2,28 +2,28 @@
 -- Assumes nothing.
 use borrow.Author.Rules.{rules}
 use borrow.Author.Tests.{le-ltb, lt-ltb, ne_eqb}
-use Rattle.bench_rules.specs.Script.{tripleLine}
+use Rattle.bench_rules.specs.Script.{triple_line}
 use Rattle.script.proofs.operands.three_numbers.Statement.{statement}
 use Rattle.script.proofs.operands.three_numbers.Tie as tie
 
 returns : tie.Need-returns
-unfolding tripleLine
+unfolding triple_line
 returns c = rw (c.unknown.ensures, ne_eqb _ _ c.before.if1.true)
 
 returns-2 : tie.Need-returns-2
-unfolding tripleLine
+unfolding triple_line
 returns-2 c = rw (c.unknown2.ensures, ← c.before.before.operand3.ensures.0, ← c.before.before.before.operand2.ensures.0, ← c.before.before.before.before.operand.ensures.0, c.before.before.before.before.before.if1.false, lt-ltb _ _ c.before.if2.true)
 
 returns-3 : tie.Need-returns-3
-unfolding tripleLine
+unfolding triple_line
 returns-3 c = rw (c.unknown3.ensures, ← c.before.before.before.operand3.ensures.0, ← c.before.before.before.before.operand2.ensures.0, ← c.before.before.before.before.before.operand.ensures.0, c.before.before.before.before.before.before.if1.false, le-ltb _ _ c.before.before.if2.false, lt-ltb _ _ c.before.if3.true)
 
 returns-4 : tie.Need-returns-4
-unfolding tripleLine
+unfolding triple_line
 returns-4 c = rw (c.unknown4.ensures, ← c.before.before.before.before.operand3.ensures.0, ← c.before.before.before.before.before.operand2.ensures.0, ← c.before.before.before.before.before.before.operand.ensures.0, c.before.before.before.before.before.before.before.if1.false, le-ltb _ _ c.before.before.before.if2.false, le-ltb _ _ c.before.before.if3.false, lt-ltb _ _ c.before.if4.true)
 
 returns-5 : tie.Need-returns-5
-unfolding tripleLine
+unfolding triple_line
 returns-5 c = rw (← c.before.before.before.operand3.ensures.0, ← c.before.before.before.before.operand2.ensures.0, ← c.before.before.before.before.before.operand.ensures.0, c.before.before.before.before.before.before.if1.false, le-ltb _ _ c.before.before.if2.false, le-ltb _ _ c.before.if3.false, le-ltb _ _ c.if4.false)
 
 pub three-numbers-spec : {M : Type 1} → statement M

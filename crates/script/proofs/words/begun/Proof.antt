@@ -1,7 +1,7 @@
-use Rattle.bench_rules.proofs.Lines.{begun-law, rest_all}
+use Rattle.bench_rules.proofs.Lines.{begun_law, rest_all}
 use Rattle.script.proofs.words.begun.Statement.{statement}
 use Rattle.script.proofs.words.begun.Tie as tie
-use Rattle.bench_rules.specs.Script.{begunOf}
+use Rattle.bench_rules.specs.Script.{begun_of}
 use borrow.Author.Rules.{rules}
 use lib.ListN.{length-take}
 use native.Mathlib.Omega.{arith}
@@ -25,7 +25,7 @@ part-result-end : tie.Need-slice-bounds-result-end
 part-result-end c = search rules
 
 returns : tie.Need-returns
-returns c = begun-law c.before.before.before.before.before.args.s.now _ _ c.before.before.before.reach.ensures.0 c.before.reach2.ensures.0
+returns c = begun_law c.before.before.before.before.before.args.s.now _ _ c.before.before.before.reach.ensures.0 c.before.reach2.ensures.0
 
 pub begun-spec : {M : Type 1} → statement M
 begun-spec =

@@ -1,4 +1,4 @@
-use Rattle.bench_rules.proofs.Lines.{next-law, rest_all}
+use Rattle.bench_rules.proofs.Lines.{next_law, rest_all}
 use Rattle.script.proofs.words.next.Statement.{statement}
 use Rattle.script.proofs.words.next.Tie as tie
 use Rattle.bench_rules.specs.Script.{next_of}
@@ -29,7 +29,7 @@ part-result-end : tie.Need-slice-bounds-result-end
 part-result-end c = search rules
 
 returns : tie.Need-returns
-returns c = next-law c.before.before.before.before.before.args.s.now _ _ c.before.before.before.reach.ensures.0 c.before.reach2.ensures.0
+returns c = next_law c.before.before.before.before.before.args.s.now _ _ c.before.before.before.reach.ensures.0 c.before.reach2.ensures.0
 
 pub next-spec : {M : Type 1} → statement M
 next-spec =

@@ -3,14 +3,14 @@ use Prim.Native.Nat.{◌≤◌, ◌+◌, ◌-◌}
 use mathlib.Core.Path.{◌≡◌, sym, ◌∙◌}
 use native.Mathlib.Omega.{arith}
 use lib.ListN.{length, drop}
-use Rattle.bench_rules.specs.Script.{reachOf}
-use Rattle.bench_rules.proofs.Lines.{reach-more, reach_here, reach-end}
+use Rattle.bench_rules.specs.Script.{reach_of}
+use Rattle.bench_rules.proofs.Lines.{reach_more, reach_here, reach_end}
 use Rattle.script.proofs.words.reach.Statement.{statement}
 use Rattle.script.proofs.words.reach.Tie as tie
 use borrow.Author.Rules.{rules}
 
 abbrev invariant-loop : tie.invariant-loop
-invariant-loop s class i₀ i = (i ≤ length s) × (reachOf class s ≡ i + reachOf class (drop i s))
+invariant-loop s class i₀ i = (i ≤ length s) × (reach_of class s ≡ i + reach_of class (drop i s))
 
 abbrev decreases-loop : tie.decreases-loop
 decreases-loop s class i₀ i = length s - i
@@ -34,10 +34,10 @@ loop-less : tie.Need-loop-smaller invariant-loop decreases-loop
 loop-less c = search rules
 
 loop-again : tie.Need-loop-preserved invariant-loop decreases-loop
-loop-again c = (omega arith, omega (arith, reach-more c.before.before.before.before.before.before.args.class c.before.before.before.before.before.before.args.s.now c.before.before.before.before.loop.i c.before.before.before.loop-test.true (sym c.before.is.ensures ∙ c.if1.false)))
+loop-again c = (omega arith, omega (arith, reach_more c.before.before.before.before.before.before.args.class c.before.before.before.before.before.before.args.s.now c.before.before.before.before.loop.i c.before.before.before.loop-test.true (sym c.before.is.ensures ∙ c.if1.false)))
 
 returns-2 : tie.Need-returns-2 invariant-loop decreases-loop
-returns-2 c = (omega (arith, reach-end c.before.before.before.args.class c.before.before.before.args.s.now c.before.loop.i c.loop-test.false), omega arith)
+returns-2 c = (omega (arith, reach_end c.before.before.before.args.class c.before.before.before.args.s.now c.before.loop.i c.loop-test.false), omega arith)
 
 pub reach-spec : {M : Type 1} → statement M
 reach-spec =

@@ -2,12 +2,12 @@
 use borrow.Author.Rules.{rules}
 use Rattle.transmit_rules.specs.Tx as tx
 use Rattle.card_rules.proofs.Join.{tx-does}
-use Rattle.card_rules.proofs.Sides.{tx-sound-at}
+use Rattle.card_rules.proofs.Sides.{tx_sound_at}
 use Rattle.steps.proofs.effects.collisions.Statement.{statement}
 use Rattle.steps.proofs.effects.collisions.Tie as tie
 
 collisions-requires : tie.Need-collisions-requires
-collisions-requires c κs = (tx-sound-at _ _ _ _ c.tx-size.ensures.0 c.before.before.before.before.before.requires.0, c.before.before.before.before.before.requires.1)
+collisions-requires c κs = (tx_sound_at _ _ _ _ c.tx-size.ensures.0 c.before.before.before.before.before.requires.0, c.before.before.before.before.before.requires.1)
 
 returns : tie.Need-returns
 returns c =

@@ -2,13 +2,13 @@
 use borrow.Author.Rules.{rules}
 use Rattle.transmit_rules.specs.Tx as tx
 use Rattle.card_rules.proofs.Join.{tx-does}
-use Rattle.card_rules.proofs.Sides.{tx-sound-at}
+use Rattle.card_rules.proofs.Sides.{tx_sound_at}
 use Rattle.card_rules.proofs.EffectSides.{tells_as}
 use Rattle.steps.proofs.effects.success.Statement.{statement}
 use Rattle.steps.proofs.effects.success.Tie as tie
 
 success-requires : tie.Need-success-requires
-success-requires c κs = (tx-sound-at _ _ _ _ c.before.tx-size.ensures.0 c.before.before.before.before.before.before.before.requires.0, c.before.before.before.before.before.before.before.requires.1, c.before.before.before.before.before.before.before.requires.2)
+success-requires c κs = (tx_sound_at _ _ _ _ c.before.tx-size.ensures.0 c.before.before.before.before.before.before.before.requires.0, c.before.before.before.before.before.before.before.requires.1, c.before.before.before.before.before.before.before.requires.2)
 
 returns : tie.Need-returns
 returns c =

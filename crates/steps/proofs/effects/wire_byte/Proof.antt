@@ -1,18 +1,18 @@
 -- `effects::wire_byte` meets its contract, by the law `stored`. Assumes nothing.
 use borrow.Author.Rules.{rules}
 use Rattle.receive_rules.specs.Wire as wire
-use Rattle.card_rules.proofs.Sides.{rx-sound-at}
+use Rattle.card_rules.proofs.Sides.{rx_sound_at}
 use Rattle.card_rules.proofs.EffectSides.{stored}
 use Rattle.steps.proofs.effects.wire_byte.Statement.{statement}
 use Rattle.steps.proofs.effects.wire_byte.Tie as tie
 
 wire-byte-requires : tie.Need-wire-byte-requires
-wire-byte-requires c κs = rx-sound-at _ _ _ _ c.rx-size.ensures.0 c.before.before.before.before.before.requires
+wire-byte-requires c κs = rx_sound_at _ _ _ _ c.rx-size.ensures.0 c.before.before.before.before.before.requires
 
 returns : tie.Need-returns
 returns c =
     let s = c.before.before.before.before.before.before.before.before.before in
-    stored s.args.c _ _ _ _ s.requires.held (λ n. wire.wireByte n s.args.b) _ _ _ c.before.before.before.before.rx-size.ensures.0 c.with-receive.ensures c.before.before.before.wire-byte.ensures
+    stored s.args.c _ _ _ _ s.requires.held (λ n. wire.wire_byte n s.args.b) _ _ _ c.before.before.before.before.rx-size.ensures.0 c.with-receive.ensures c.before.before.before.wire-byte.ensures
 
 pub wire-byte-spec : {M : Type 1} → statement M
 wire-byte-spec = tie.close (tie.spec (λ c κs. search rules) wire-byte-requires (λ c κs. search rules) (λ c. search rules) (λ c. search rules) returns)

@@ -1,12 +1,12 @@
 -- `effects::wire_start` meets its contract, by the law `started`. Assumes nothing.
 use borrow.Author.Rules.{rules}
-use Rattle.card_rules.proofs.Sides.{rx-sound-at}
+use Rattle.card_rules.proofs.Sides.{rx_sound_at}
 use Rattle.card_rules.proofs.EffectSides.{started}
 use Rattle.steps.proofs.effects.wire_start.Statement.{statement}
 use Rattle.steps.proofs.effects.wire_start.Tie as tie
 
 wire-start-requires : tie.Need-wire-start-requires
-wire-start-requires c κs = (rx-sound-at _ _ _ _ c.rx-size.ensures.0 c.before.before.before.before.before.before.before.before.requires.0, c.before.before.before.before.before.before.before.before.requires.1)
+wire-start-requires c κs = (rx_sound_at _ _ _ _ c.rx-size.ensures.0 c.before.before.before.before.before.before.before.before.requires.0, c.before.before.before.before.before.before.before.before.requires.1)
 
 returns : tie.Need-returns
 returns c =

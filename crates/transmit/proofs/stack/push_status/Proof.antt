@@ -48,9 +48,9 @@ use Rattle.transmit_rules.proofs.Statuses.TheLaws as T'
 use Rattle.transmit_rules.specs.contracts.Outcomes as K
 use Rattle.transmit_rules.proofs.Outcomes.TheLaws as K'
 use Rattle.transmit.specs.contracts.statuses.push as callee
-use Rattle.transmit.proofs.statuses.push.Symbol as callee-def
+use Rattle.transmit.proofs.statuses.push.Symbol as callee_def
 use Rattle.transmit.proofs.statuses.push.Symbol.{name as #statuses·push}
-use Rattle.transmit.proofs.statuses.push.Met as callee-thm
+use Rattle.transmit.proofs.statuses.push.Met as callee_thm
 use Rattle.transmit.specs.contracts.stack.push_status.Key.{name as #own}
 use Rattle.transmit.specs.contracts.stack.push_status as own
 use Rattle.transmit.proofs.stack.push_status.Statement as stated
@@ -172,4 +172,4 @@ push-status-spec 𝓤 𝓛 𝓜 𝓡 =
     entered 𝓤 𝓛.H (triple_of 𝓛 own.signature (own.spec 𝓛 𝓜.mem 𝓡.run))
     (tables 𝓤 𝓛.H 𝓜 𝓡 code.env).C (tables 𝓤 𝓛.H 𝓜 𝓡 code.env).Λ #own code.function (code.unfolded 𝓤 𝓛.H 𝓜 𝓡)
     (meets 𝓛 𝓜.mem 𝓡.run (tables_of 𝓤 𝓛.H 𝓜 (tables 𝓤 𝓛.H 𝓜 𝓡 code.env))
-    (cited 𝓤 𝓛.H (Callee 𝓛 𝓜.mem 𝓡.run) 𝓜 𝓡 code.env #statuses·push callee-def.routine code.calls-transmit::statuses::push (callee-thm.met 𝓤 𝓛 𝓜 𝓡)))
+    (cited 𝓤 𝓛.H (Callee 𝓛 𝓜.mem 𝓡.run) 𝓜 𝓡 code.env #statuses·push callee_def.routine code.calls-transmit::statuses::push (callee_thm.met 𝓤 𝓛 𝓜 𝓡)))

@@ -38,11 +38,11 @@ use denote.Triple.Walked.{says, needs, Stays, stay_ref, walk_of, AllGo, Goes-ref
 use Rattle.transmit_rules.specs.Stack.{stack, both, Few, Stacks, rest}
 use Rattle.transmit_rules.specs.declared.Statuses.{Statuses}
 use Rattle.transmit_rules.specs.contracts.Statuses as T
-use Rattle.transmit.proofs.InPlace.{Key, toEntries, toCount, entriesPtr, countPtr, entriesRef, countRef, Tokens, Handed, Kept, lends, back}
+use Rattle.transmit.proofs.InPlace.{Key, to_entries, to_count, entries_ptr, count_ptr, entries_ref, count_ref, Tokens, Handed, Kept, lends, back}
 use Rattle.transmit.specs.contracts.statuses.take_oldest as callee
-use Rattle.transmit.proofs.statuses.take_oldest.Symbol as callee-def
+use Rattle.transmit.proofs.statuses.take_oldest.Symbol as callee_def
 use Rattle.transmit.proofs.statuses.take_oldest.Symbol.{name as #statuses·take_oldest}
-use Rattle.transmit.proofs.statuses.take_oldest.Met as callee-thm
+use Rattle.transmit.proofs.statuses.take_oldest.Met as callee_thm
 use Rattle.transmit.specs.contracts.statuses.pop.Key.{name as #own}
 use Rattle.transmit.specs.contracts.statuses.pop as own
 use Rattle.transmit.proofs.statuses.pop.Statement as stated
@@ -87,14 +87,14 @@ module _ {M : Type 1} {𝓤 : Ura M} (𝓛 : Logic 𝓤) (at_mem : Memory → SP
     κs = (k.0.0 ∷ [], (k.1.0 ∷ [], tt))
 
     abbrev refs : MutBor (List ℕ) × (MutBor ℕ × Unit {0})
-    refs = (toEntries h b o k, (toCount h b o k, tt))
+    refs = (to_entries h b o k, (to_count h b o k, tt))
 
     abbrev to-callee : (Callee 𝓛 at_mem run).Ghost
-    to-callee = ((κs, (full_share, (full_share, tt)), tt, refs, (entriesPtr b o, (countPtr b o, tt))), tt)
+    to-callee = ((κs, (full_share, (full_share, tt)), tt, refs, (entries_ptr b o, (count_ptr b o, tt))), tt)
 
     goes-callee : (length h.entries ≡ 31) × Few h → ent 𝓤 (Handed 𝓛 b o h k) ((Callee 𝓛 at_mem run).pre to-callee)
     goes-callee need =
-        qed 𝓛 (raw (Tokens 𝓛 b o k) ∷ ‵ (entriesRef h b o k) ∷ ‵ (countRef h b o k) ∷ []) ∵ says ! need $ frame ! $ nothing ! $ move ! (2 ∷ 0 ∷ []) $ fjoin ! $ move ! (1 ∷ 0 ∷ []) $ fjoin ! $ done !
+        qed 𝓛 (raw (Tokens 𝓛 b o k) ∷ ‵ (entries_ref h b o k) ∷ ‵ (count_ref h b o k) ∷ []) ∵ says ! need $ frame ! $ nothing ! $ move ! (2 ∷ 0 ∷ []) $ fjoin ! $ move ! (1 ∷ 0 ∷ []) $ fjoin ! $ done !
 
   module _ (C : Calls 𝓤 H) (Λ : Loops 𝓤 H) (fm : FmC 𝓤 H 𝓛.laws C) (known : Triple 𝓤 (C #statuses·take_oldest) (Callee 𝓛 at_mem run)) where
     walk : Few h → ent 𝓤 (on_entry 𝓛 own.signature (κ, tt) (q, tt) x at) (WpFn 𝓤 H C Λ code.function (vptr b o ∷ []) Post)
@@ -145,4 +145,4 @@ pop_spec 𝓤 𝓛 𝓜 𝓡 =
     entered 𝓤 𝓛.H (triple_of 𝓛 own.signature (own.spec 𝓛 𝓜.mem 𝓡.run))
     (tables 𝓤 𝓛.H 𝓜 𝓡 code.env).C (tables 𝓤 𝓛.H 𝓜 𝓡 code.env).Λ #own code.function (code.unfolded 𝓤 𝓛.H 𝓜 𝓡)
     (meets 𝓛 𝓜.mem 𝓡.run (tables_of 𝓤 𝓛.H 𝓜 (tables 𝓤 𝓛.H 𝓜 𝓡 code.env))
-    (cited 𝓤 𝓛.H (Callee 𝓛 𝓜.mem 𝓡.run) 𝓜 𝓡 code.env #statuses·take_oldest callee-def.routine code.calls-transmit::statuses::take-oldest (callee-thm.met 𝓤 𝓛 𝓜 𝓡)))
+    (cited 𝓤 𝓛.H (Callee 𝓛 𝓜.mem 𝓡.run) 𝓜 𝓡 code.env #statuses·take_oldest callee_def.routine code.calls-transmit::statuses::take-oldest (callee_thm.met 𝓤 𝓛 𝓜 𝓡)))

@@ -2,12 +2,12 @@
 -- Assumes nothing.
 use borrow.Author.Rules.{rules}
 use borrow.Author.Tests.{ne_eqb}
-use Rattle.card_rules.specs.Eeprom.{promCommand}
+use Rattle.card_rules.specs.Eeprom.{prom_command}
 use Rattle.window_write.proofs.setup.prom_command.Statement.{statement}
 use Rattle.window_write.proofs.setup.prom_command.Tie as tie
 
 pub prom-command-spec : {M : Type 1} → statement M
-unfolding promCommand
+unfolding prom_command
 prom-command-spec =
     tie.close
     (tie.spec

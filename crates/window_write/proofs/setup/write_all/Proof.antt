@@ -7,10 +7,10 @@ use native.Mathlib.Omega.{arith}
 use lib.ListN.{length, get_or, set}
 use lib.Bits.{bit_and}
 use Rattle.port_rules.specs.declared.IdState.{IdState}
-use Rattle.card_rules.specs.Update.{idWords}
+use Rattle.card_rules.specs.Update.{id_words}
 use Rattle.card_rules.specs.Eeprom.{write_all}
 use Rattle.bits.specs.UpTo.{up_to}
-use Rattle.bits.proofs.UpTo.{upTo-none, upTo-turn, upTo-all}
+use Rattle.bits.proofs.UpTo.{upTo_none, upTo_turn, upTo_all}
 use Rattle.window_write.proofs.setup.write_all.Statement.{statement}
 use Rattle.window_write.proofs.setup.write_all.Tie as tie
 
@@ -19,16 +19,16 @@ masked i w = bit_and w i.shift
 
 -- the state with its first n words written
 abbrev written : IdState → ℕ → IdState
-written i n = idWords (up_to (masked i) n i.words) i
+written i n = id_words (up_to (masked i) n i.words) i
 
 start : (i : IdState) → i ≡ written i 0
-start i = λ j. idWords (sym (upTo-none (masked i) i.words) j) i
+start i = λ j. id_words (sym (upTo_none (masked i) i.words) j) i
 
-turn : (i next : IdState) (n : ℕ) → next ≡ written i n → idWords (set next.words n (masked i (get_or next.words n 0))) next ≡ written i (n + 1)
-turn i next n e = λ j. idWords (upTo-turn (masked i) n i.words next.words 0 (masked i (get_or next.words n 0)) (λ k. (e k).words) refl j) (e j)
+turn : (i next : IdState) (n : ℕ) → next ≡ written i n → id_words (set next.words n (masked i (get_or next.words n 0))) next ≡ written i (n + 1)
+turn i next n e = λ j. id_words (upTo_turn (masked i) n i.words next.words 0 (masked i (get_or next.words n 0)) (λ k. (e k).words) refl j) (e j)
 
 ends : (i next : IdState) (n : ℕ) → length i.words ≡ 64 → n ≡ 64 → next ≡ written i n → next ≡ write_all i
-ends i next n l h e = e ∙ ap (written i) h ∙ ap (λ (ws : List ℕ). idWords ws i) (upTo-all (masked i) 64 i.words (omega arith))
+ends i next n l h e = e ∙ ap (written i) h ∙ ap (λ (ws : List ℕ). id_words ws i) (upTo_all (masked i) 64 i.words (omega arith))
 
 abbrev invariant-loop : tie.invariant-loop
 invariant-loop i next₀ n₀ next n = (n ≤ 64) × (next ≡ written i n)

@@ -1,7 +1,0 @@
-// What `hex` prints it reads back.
-ghost use Rattle.hex.specs.RoundTrip.{Round-trips};
-
-// Bytes, a byte, a word, and a number in decimal: printed, then read.
-pub fn what_is_printed_is_read_back()
-    ensures { Round-trips }
-{}

@@ -1,0 +1,54 @@
+-- `reading::value` meets its contract: its tests are the definition's. Assumes nothing.
+use borrow.Author.Tests.{lt-ltb, le-ltb}
+use Rattle.bench_rules.specs.Text.{value_of}
+use Rattle.hex_text.proofs.reading.value.Statement.{statement}
+use Rattle.hex_text.proofs.reading.value.Tie as tie
+use borrow.Author.Rules.{rules}
+
+returns : tie.Need-returns
+unfolding value_of
+returns c = rw (lt-ltb _ _ c.if1.true)
+
+returns-2 : tie.Need-returns-2
+unfolding value_of
+returns-2 c = rw (le-ltb _ _ c.before.if1.false, lt-ltb _ _ c.if2.true)
+
+returns-3 : tie.Need-returns-3
+unfolding value_of
+returns-3 c = rw (le-ltb _ _ c.before.before.if1.false, le-ltb _ _ c.before.if2.false, lt-ltb _ _ c.if3.true)
+
+sub-result : tie.Need-overflow-sub-result
+sub-result c = search rules
+
+returns-4 : tie.Need-returns-4
+unfolding value_of
+returns-4 c = rw (le-ltb _ _ c.before.before.before.if1.false, le-ltb _ _ c.before.before.if2.false, le-ltb _ _ c.before.if3.false, lt-ltb _ _ c.if4.true)
+
+returns-5 : tie.Need-returns-5
+unfolding value_of
+returns-5 c = rw (le-ltb _ _ c.before.before.before.before.if1.false, le-ltb _ _ c.before.before.before.if2.false, le-ltb _ _ c.before.before.if3.false, le-ltb _ _ c.before.if4.false, lt-ltb _ _ c.if5.true)
+
+sub-result-2 : tie.Need-overflow-sub-result-2
+sub-result-2 c = search rules
+
+returns-6 : tie.Need-returns-6
+unfolding value_of
+returns-6 c = rw (le-ltb _ _ c.before.before.before.before.before.if1.false, le-ltb _ _ c.before.before.before.before.if2.false, le-ltb _ _ c.before.before.before.if3.false, le-ltb _ _ c.before.before.if4.false, le-ltb _ _ c.before.if5.false, lt-ltb _ _ c.if6.true)
+
+returns-7 : tie.Need-returns-7
+unfolding value_of
+returns-7 c = rw (le-ltb _ _ c.before.before.before.before.before.if1.false, le-ltb _ _ c.before.before.before.before.if2.false, le-ltb _ _ c.before.before.before.if3.false, le-ltb _ _ c.before.before.if4.false, le-ltb _ _ c.before.if5.false, le-ltb _ _ c.if6.false)
+
+pub value_spec : {M : Type 1} → statement M
+value_spec =
+    tie.close
+    (tie.spec
+    returns
+    returns-2
+    returns-3
+    sub-result
+    returns-4
+    returns-5
+    sub-result-2
+    returns-6
+    returns-7)

@@ -1,22 +1,21 @@
 -- Sides that hold nothing, whatever the memory holds. Assumes nothing.
-use mathlib.Core.Path.{◌≡◌, refl, subst}
+use mathlib.Core.Path.{◌≡◌, subst}
 use mathlib.Core.List.{List}
 use mathlib.Core.Bool.{false}
 use Prim.Native.Nat.{ℕ, ◌%◌}
 use native.Mathlib.Omega.{arith}
 use lib.ListN.{length, get_or, replicate}
+use Rattle.store.specs.Store as store
 use Rattle.store.specs.Store.{frames, room_of}
 use Rattle.port_rules.specs.declared.IdState.{IdState}
 use Rattle.port_rules.specs.Card.{id_fresh}
 use Rattle.receive_rules.specs.Reading.{rx_empty, deafened}
-use Rattle.receive_rules.specs.Frame.{room}
-use Rattle.receive_rules.specs.View.{Counted}
+use Rattle.receive_rules.specs.View.{rx_area}
 use Rattle.transmit_rules.specs.Queue.{empty}
-use Rattle.transmit_rules.specs.QueueView.{part_of, Packed}
+use Rattle.transmit_rules.specs.QueueView.{part_of, tx_area}
 use Rattle.transmit_rules.specs.declared.Outcomes.{Outcomes}
 use Rattle.transmit_rules.specs.Outcome.{at_power_on}
 use Rattle.transmit_rules.specs.OutcomesView.{Reported}
-use Rattle.transmit_rules.proofs.Apart.{idle-packed}
 use Rattle.transmit_rules.proofs.Steps.{emptied}
 use Rattle.card_rules.specs.declared.Card.{Card}
 use Rattle.card_rules.specs.Update.{with_id, with_tx}
@@ -25,18 +24,19 @@ use Rattle.card_rules.specs.Power.{power_on, reset}
 use Rattle.card_rules.specs.View.{view, Is, Blank, Does}
 use Rattle.card_rules.proofs.Ranges.{rx-small, tx-small}
 
--- no frames, and no packets, lie in their areas, whatever their sizes, and all of them is free
+-- no frames, and no packets, lie in their areas, whatever their sizes
 module _ (split : ℕ) (ram dir : List ℕ) (r : length ram ≡ 8192) (d : length dir ≡ 1110) where
-  pub frames-packed : Counted (rx_size split) (rx_size split) 0 ram dir
-  unfolding room_of frames room
+  pub frames-packed : store.Sound (rx_area (rx_size split)) 0 ram dir
+  unfolding room_of
   frames-packed =
-      record {
-        lies = record { in_ram = omega (arith, rx-small split); in_dir = omega arith; few = omega arith; small = omega arith; room = omega arith };
-        counted = omega arith;
-      }
+      record
+      { in_ram = omega (arith, rx-small split); in_dir = omega arith; few = omega arith; small = omega arith; room = omega arith }
 
-  pub packets-packed : Packed (tx_size split) (emptied (tx_size split)) ram dir
-  packets-packed = idle-packed (tx_size split) (emptied (tx_size split)) ram dir refl refl refl (tx-small split) (omega arith) (omega arith)
+  pub packets-packed : store.Sound (tx_area (tx_size split)) 0 ram dir
+  unfolding room_of
+  packets-packed =
+      record
+      { in_ram = omega (arith, tx-small split); in_dir = omega arith; few = omega arith; small = omega arith; room = omega arith }
 
 -- the card that power-on makes
 abbrev pub started : List ℕ → ℕ → IdState → Outcomes → Card
@@ -55,8 +55,8 @@ started words wire i o =
             station = replicate 6 0;
           };
       prom = record { last = 0; writable = false };
-      receive = record { receiver = (rx_empty wire).receiver; free = rx_size (get_or words 0x13 0 % 4); frames = 0 };
-      transmit = record { fifo = emptied (tx_size (get_or words 0x13 0 % 4)); outcomes = o };
+      receive = record { receiver = (rx_empty wire).receiver; frames = 0 };
+      transmit = record { fifo = emptied; outcomes = o };
     }
 
 -- it is the adapter at power-on

@@ -19,13 +19,13 @@ use Rattle.transmit_rules.proofs.Steps.{emptied}
 use Rattle.card_rules.specs.declared.Card.{Card}
 use Rattle.card_rules.specs.Update.{with_select, with_rx, with_tx, select_filter}
 use Rattle.card_rules.specs.Groups.{card_select, card_lines, card_receive, card_receiver, card_transmit, card_outcomes}
-use Rattle.card_rules.specs.View.{rx_size_of, tx_size_of, view, Is, Does}
+use Rattle.card_rules.specs.View.{view, Is, Does}
 use Rattle.card_rules.proofs.Blank.{frames-packed, packets-packed}
 use Rattle.card_rules.specs.Command.{rx_reset, tx_reset, acknowledge}
 
 module _ (c : Card) where
   abbrev deaf : ℕ → Card
-  deaf wire = card_receive (record { receiver = (rx_empty wire).receiver; free = rx_size_of c; frames = 0 }) (card_select (select_filter 0 c.select) c)
+  deaf wire = card_receive (record { receiver = (rx_empty wire).receiver; frames = 0 }) (card_select (select_filter 0 c.select) c)
 
   pub rx-reset-does : (wire : ℕ) → wire ≡ deafened c.receive.receiver.wire → Does c (deaf wire) rx_reset
   unfolding view reading.rx_reset frames
@@ -43,7 +43,7 @@ module _ (c : Card) where
       }
 
   pub tx-reset-does : (o : Outcomes) → Reported o (outcome.reset (reports_of c.transmit.outcomes))
-      → Does c (card_transmit (record { fifo = emptied (tx_size_of c); outcomes = o }) c) tx_reset
+      → Does c (card_transmit (record { fifo = emptied; outcomes = o }) c) tx_reset
   unfolding view tx.tx_reset frames part_of
   tx-reset-does o e ram dir h =
       record {

@@ -9,7 +9,6 @@ pub mod Sides
 pub mod Ends
 pub mod Quiet
 pub mod Checked
-pub mod Counts
 pub mod RegsExamples
 mod LineExamples
 -- EEPROM commands
@@ -19,6 +18,7 @@ pub mod Effects
 pub mod CommandKeeps
 pub mod CommandsExamples
 -- the reads
+pub mod Free
 pub mod In
 pub mod WindowReadExamples
 -- the writes

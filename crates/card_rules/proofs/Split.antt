@@ -13,7 +13,6 @@ use Rattle.store.specs.Store as store
 use Rattle.receive_rules.specs.Frame.{Frame, Rx}
 use Rattle.receive_rules.proofs.Order.{frames-counted}
 use Rattle.receive_rules.proofs.Steps.{resized_same}
-use Rattle.transmit_rules.specs.declared.Fifo.{Fifo}
 use Rattle.transmit_rules.specs.Queue.{Queue}
 use Rattle.transmit_rules.proofs.Facts.{words_of}
 use Rattle.transmit_rules.proofs.Apart.{idle-packed, idle-queue}
@@ -24,7 +23,7 @@ use Rattle.card_rules.specs.declared.Config.{Config}
 use Rattle.card_rules.specs.declared.Card.{Card}
 use Rattle.card_rules.specs.Update.{with_config, with_rx, with_tx, config_second}
 use Rattle.card_rules.specs.Room.{rx_size, tx_size}
-use Rattle.card_rules.specs.Groups.{card_config, card_receive, card_transmit}
+use Rattle.card_rules.specs.Groups.{card_config}
 use Rattle.card_rules.specs.View.{rx_size_of, tx_size_of, view, Held, Is}
 use Rattle.card_rules.proofs.Ranges.{tx-small}
 use Rattle.card_rules.proofs.Blank.{frames-packed}
@@ -39,13 +38,6 @@ used [] [] zero = refl
 used [] [] (suc k) = sym (lt-ltb 0 (suc k) (omega arith))
 used [] (p ∷ ps) k = refl
 used (f ∷ fs) ps k = rw (lt-ltb 0 (suc (length fs)) (omega arith))
-
--- the card with other counts of RX Free and TX Free
-abbrev pub freed : ℕ → ℕ → Card → Card
-freed rx tx c =
-    let f : Fifo = c.transmit.fifo in
-    card_receive (record { receiver = c.receive.receiver; free = rx; frames = c.receive.frames })
-    (card_transmit (record { fifo = record { failed = f.failed; free = tx; packets = f.packets; words = f.words }; outcomes = c.transmit.outcomes }) c)
 
 -- a frame, a packet or a word of one is counted
 abbrev pub counted : Card → Bool
@@ -71,29 +63,28 @@ module _ (c : Card) (ram dir : List ℕ) (h : Held c ram dir) where
   in_use_lem =
       used (view c ram dir).rx.frames (view c ram dir).tx.queue.packets (view c ram dir).tx.queue.part.words
       ∙ rw (
-        frames-counted (rx_size_of c) c.receive.frames ram dir h.frames.lies,
-        any_of (tx_size_of c) c.transmit.fifo.packets ram dir h.packets.lies,
+        frames-counted (rx_size_of c) c.receive.frames ram dir h.frames,
+        any_of (tx_size_of c) c.transmit.fifo.packets ram dir h.packets,
         words_of (tx_size_of c) c.transmit.fifo.packets c.transmit.fifo.words ram dir,
       )
 
-  -- any configuration, while no FIFO is in use; all of each side's new part is free
-  is_config_unused : Unused c → (v : Config) (rx tx : ℕ) → rx ≡ rx_size (v.second % 4) → tx ≡ tx_size (v.second % 4)
-      → Is (card_config v (freed rx tx c)) ram dir (with_config v (view c ram dir))
+  -- any configuration, while no FIFO is in use
+  is_config_unused : Unused c → (v : Config) → Is (card_config v c) ram dir (with_config v (view c ram dir))
   unfolding view
-  is_config_unused u v rx tx er et =
+  is_config_unused u v =
       let new : ℕ = v.second % 4 in
       record {
         shows =
             ap₂ (λ (x : Rx) (q : Queue). with_config v (with_tx (record { queue = q; reports = reports_of c.transmit.outcomes }) (with_rx x (view c ram dir))))
             (resized_same (rx_size_of c) (rx_size new) c.receive ram dir u.frames)
-            (idle-queue (tx_size new) (freed rx tx c).transmit.fifo ram dir u.packets u.words
+            (idle-queue (tx_size new) c.transmit.fifo ram dir u.packets u.words
             ∙ sym (idle-queue (tx_size_of c) c.transmit.fifo ram dir u.packets u.words));
         held =
             record {
               ram_long = h.ram_long;
               dir_long = h.dir_long;
-              frames = rw (u.frames, er) (frames-packed new ram dir h.ram_long h.dir_long);
-              packets = idle-packed (tx_size new) (freed rx tx c).transmit.fifo ram dir u.packets u.words et (tx-small new) (omega (arith, h.ram_long)) (omega (arith, h.dir_long));
+              frames = rw u.frames (frames-packed new ram dir h.ram_long h.dir_long);
+              packets = idle-packed (tx_size new) c.transmit.fifo ram dir u.packets (tx-small new) (omega (arith, h.ram_long)) (omega (arith, h.dir_long));
               statuses = h.statuses;
             };
       }
@@ -106,7 +97,6 @@ module _ (c : Card) (ram dir : List ℕ) (h : Held c ram dir) where
     unfolding view resplit
     is_kept_lem e = rw (in_use_lem ∙ e) (is_config c ram dir h _ (omega arith))
 
-    pub is_split : (rx tx : ℕ) → rx ≡ rx_size (v % 4) → tx ≡ tx_size (v % 4) → counted c ≡ false
-        → Is (card_config (config_second v c.config) (freed rx tx c)) ram dir (resplit v (view c ram dir))
+    pub is_split : counted c ≡ false → Is (card_config (config_second v c.config) c) ram dir (resplit v (view c ram dir))
     unfolding view resplit
-    is_split rx tx er et e = rw (in_use_lem ∙ e) (is_config_unused (unused c e) _ rx tx er et)
+    is_split e = rw (in_use_lem ∙ e) (is_config_unused (unused c e) _)

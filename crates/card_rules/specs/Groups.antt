@@ -33,7 +33,7 @@ card_transmit v c = record { id = c.id; select = c.select; lines = c.lines; conf
 
 -- the receive side with other registers, and the transmit side with other outcomes
 abbrev pub card_receiver : Receiver → Card → Card
-card_receiver v c = card_receive (record { receiver = v; free = c.receive.free; frames = c.receive.frames }) c
+card_receiver v c = card_receive (record { receiver = v; frames = c.receive.frames }) c
 
 abbrev pub card_outcomes : Outcomes → Card → Card
 card_outcomes v c = card_transmit (record { fifo = c.transmit.fifo; outcomes = v }) c

@@ -10,8 +10,6 @@ pub mod Sound
 pub mod Line
 pub mod Groups
 pub mod View
--- the counts of RX Free and TX Free
-pub mod Counts
 -- EEPROM commands
 pub mod Eeprom
 -- the commands

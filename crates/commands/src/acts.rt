@@ -9,7 +9,7 @@ ghost use Rattle.card_rules.specs.Command.{mask as mask_of, early_threshold, rx_
 
 use card_rules::Card;
 use transmit::outcomes;
-use transmit_rules::{Outcomes, Transmit};
+use transmit_rules::{Fifo, Outcomes, Transmit};
 
 // Select Window.
 pub fn select_window(c: Card, x: u16) -> Card
@@ -35,7 +35,7 @@ pub fn rx_reset(c: Card) -> Card
     ensures { Does c result rx_reset }
 {
     let wire = receive::deafen(c.receive.receiver.wire);
-    let receive = regs::quiet(regs::rx_size(c.config.second), wire);
+    let receive = regs::quiet(wire);
     let mut next = c;
     next.select.filter = 0;
     next.receive = receive;
@@ -62,7 +62,11 @@ pub fn tx_reset(c: Card) -> Card
     ensures { Does c result tx_reset }
 {
     let o = transmit::reset(c.transmit.outcomes);
-    let fifo = regs::drained(regs::tx_size(c.config.second));
+    let fifo = Fifo {
+        failed: false,
+        packets: 0,
+        words: 0,
+    };
     let transmit = Transmit {
         fifo: fifo,
         outcomes: o,

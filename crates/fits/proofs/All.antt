@@ -10,7 +10,6 @@ use Rattle.transmit_rules.specs.Leave.{told_of}
 use Rattle.card_rules.specs.declared.Card.{Card}
 use Rattle.card_rules.specs.View.{view}
 use Rattle.card_rules.specs.Calls.{value, done, Area}
-use Rattle.card_rules.proofs.Counts.{one-count}
 use Rattle.fits.specs.Fits.{Exactly, OneLine, text, CardCalls, NothingElseFits}
 use Rattle.fits.proofs.Card.{one_answer}
 use Rattle.fits.proofs.Driver.{driver-calls}
@@ -54,7 +53,7 @@ card-calls c ram dir =
 pub nothing_else : NothingElseFits
 nothing_else =
     record {
-      power_on_call = λ words ram dir l m r r' k k'. ((k ram dir l m).shows ∙ sym (k' ram dir l m).shows, one-count r r' ram dir ram dir _ (k ram dir l m) (k' ram dir l m));
+      power_on_call = λ words ram dir l m r r' k k'. (k ram dir l m).shows ∙ sym (k' ram dir l m).shows;
       card = card-calls;
       driver = driver-calls;
       hand_up_call = λ look frame n r r' k k'. (k.0 ∙ sym k'.0, k.1 ∙ sym k'.1);

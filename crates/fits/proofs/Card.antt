@@ -1,13 +1,12 @@
 -- A contract of the card fixes answer and end by one number: 0 and they are the step's, any other and they are the refusal's and what came in. Assumes nothing.
 use mathlib.Core.Path.{◌≡◌, sym, ap, ◌∙◌}
-use mathlib.Core.Bool.{Bool, false}
+use mathlib.Core.Bool.{false}
 use mathlib.Core.List.{List}
 use Prim.Native.Nat.{ℕ, zero, suc}
 use native.Mathlib.Omega.{arith}
 use Rattle.bits.proofs.Tests.{never}
 use Rattle.card_rules.specs.declared.Card.{Card}
 use Rattle.card_rules.specs.Adapter.{Adapter}
-use Rattle.card_rules.proofs.Counts.{one-count}
 use Rattle.card_rules.specs.Calls.{Reply, refused, value, done, replying, Does, Call}
 use Rattle.fits.specs.Agree.{End, shown, SameEnd, is_refusal}
 use Rattle.fits.specs.Fits.{OneAnswer}
@@ -17,10 +16,6 @@ numbered (refused n) = n
 numbered done = 0
 numbered (value v) = 0
 
--- ends that are equal in every byte
-pub whole-end : {refused : Bool} (e e' : End) → e ≡ e' → SameEnd refused e e'
-whole-end e e' same = record { shows = ap shown same; counts = (ap (λ (x : End). x.card.receive.free) same, ap (λ (x : End). x.card.transmit.fifo.free) same); whole = λ _. same }
-
 -- the card and its memory as a call leaves them
 abbrev Leaves : ℕ → Reply → Reply → Card → List ℕ → List ℕ → Adapter → End → Type 0
 Leaves n x w c ram dir a e = Call n x w c e.card ram dir e.ram e.dir a
@@ -29,7 +24,7 @@ module _ (w : Reply) (plain : is_refusal w ≡ false) (c : Card) (ram dir : List
   same_end : (n : ℕ) (x x' : Reply) (e e' : End) → Leaves n x w c ram dir a e → Leaves n x' w c ram dir a e' → SameEnd (is_refusal x) e e'
   unfolding replying Does
   same_end zero x x' e e' k k' =
-      record { shows = k.does.shows ∙ sym k'.does.shows; counts = one-count e.card e'.card e.ram e.dir e'.ram e'.dir a k.does k'.does; whole = λ y. never (sym plain ∙ (sym (ap is_refusal k.answer) ∙ y)) }
+      record { shows = k.does.shows ∙ sym k'.does.shows; whole = λ y. never (sym plain ∙ (sym (ap is_refusal k.answer) ∙ y)) }
   same_end (suc n) x x' e e' k k' =
       let same : e ≡ e' =
       λ i. record {
@@ -37,7 +32,7 @@ module _ (w : Reply) (plain : is_refusal w ≡ false) (c : Card) (ram dir : List
         ram = (k.does.1 ∙ sym k'.does.1) i;
         dir = (k.does.2 ∙ sym k'.does.2) i;
       } in
-      whole-end e e' same
+      record { shows = ap shown same; whole = λ _. same }
 
   refused_when : (number : ℕ) (x : Reply) (e : End) → Leaves number x w c ram dir a e → (n : ℕ) → number ≡ suc n → x ≡ refused (suc n)
   unfolding replying

@@ -8,7 +8,6 @@ use Rattle.bits.proofs.Tests.{by_test, never}
 use Rattle.card_rules.specs.declared.Card.{Card}
 use Rattle.card_rules.specs.Adapter.{Adapter}
 use Rattle.card_rules.specs.View.{view, Stands}
-use Rattle.card_rules.proofs.Counts.{one-count}
 use Rattle.driver_rules.specs.declared.Driver.{Driver}
 use Rattle.driver_rules.specs.Talk.{Talk, Ran, run}
 use Rattle.driver_rules.specs.declared.Answer.{Answer}
@@ -26,9 +25,8 @@ use Rattle.driver_rules.specs.declared.Sent.{Sent}
 use Rattle.driver_rules.specs.Paper.{open_paper, send_paper, service_paper}
 use Rattle.driver_rules.specs.Calls.{sound_state, large, service_call, Opens, Sends, Services}
 use Rattle.driver_rules.proofs.Ways.{begun-look, five_keeps}
-use Rattle.fits.specs.Agree.{With, WithAreas, End, SameCounts, SameEnd, is_refused, SameLeft}
+use Rattle.fits.specs.Agree.{With, WithAreas, End, shown, SameEnd, is_refused, SameLeft}
 use Rattle.fits.specs.Fits.{opened, sent, served, DriverCalls}
-use Rattle.fits.proofs.Card.{whole-end}
 use Rattle.fits.proofs.Service.{Ways, of_look}
 
 -- ---- taken or kept, by one test
@@ -43,12 +41,9 @@ module _ (c : Card) (ram dir : List ℕ) (a : Adapter) (e e' : End) where
   kept_same : Keeps c ram dir e → Keeps c ram dir e' → e ≡ e'
   kept_same k k' i = record { card = (k.0 ∙ sym k'.0) i; ram = (k.1.0 ∙ sym k'.1.0) i; dir = (k.1.1 ∙ sym k'.1.1) i }
 
-  same-counts : Takes a e → Takes a e' → SameCounts e.card e'.card
-  same-counts t t' = one-count e.card e'.card e.ram e.dir e'.ram e'.dir a t t'
-
   same_ends : (b : Bool) → (b ≡ false → Takes a e) → (b ≡ true → Keeps c ram dir e) → (b ≡ false → Takes a e') → (b ≡ true → Keeps c ram dir e') → SameEnd b e e'
-  same_ends true t k t' k' = whole-end e e' (kept_same (k refl) (k' refl))
-  same_ends false t k t' k' = record { shows = (t refl).shows ∙ sym (t' refl).shows; counts = same-counts (t refl) (t' refl); whole = λ y. never y }
+  same_ends true t k t' k' = let same : e ≡ e' = kept_same (k refl) (k' refl) in record { shows = ap shown same; whole = λ _. same }
+  same_ends false t k t' k' = record { shows = (t refl).shows ∙ sym (t' refl).shows; whole = λ y. never y }
 
 open_refused : (x : OpenAnswer) → is_refused (open_paper x) ≡ opens.refusing x
 open_refused opening.Done = refl
@@ -128,14 +123,13 @@ module _ (c : Card) (ram dir : List ℕ) (d : Driver) where
               by_test begun
               (λ y. record {
                 shows = (k.taken y).shows ∙ sym (k'.taken y).shows;
-                counts = same-counts c ram dir _ (served r).end (served r').end (k.taken y) (k'.taken y);
                 whole = λ n.
                     let five : R.answer.answer ≡ serving.Refused CardUnfit = unfit-only y r.result.used (ap (λ (z : Answer). is_refused (service_paper z r.result.used)) (sym k.answer) ∙ n) in
                     kept_same c ram dir (view c ram dir) (served r).end (served r').end (keeps r k y five) (keeps r' k' y five);
               })
               (λ n.
               let same : (served r).end ≡ (served r').end = kept_same c ram dir (view c ram dir) (served r).end (served r').end (k.kept n) (k'.kept n) in
-              whole-end (served r).end (served r').end same);
+              record { shows = ap shown same; whole = λ _. same });
         }
 
   pub driver-calls : DriverCalls c ram dir d

@@ -1,21 +1,23 @@
 -- What `rx_status` tells, from its contract and the laws of the count; and the rules, one by one. Assumes nothing.
 use mathlib.Core.Path.{◌≡◌, refl, sym, ap, ◌∙◌, subst}
 use mathlib.Core.Logic.{◌⊎◌, inl, inr}
-use mathlib.Core.Bool.{Bool, true, false, cond}
+use mathlib.Core.Bool.{Bool, true, false, cond, ◌&&◌}
 use mathlib.Core.List.{List, [], ◌∷◌}
 use Prim.Native.Nat.{ℕ, zero, suc, ◌+◌, ◌%◌, ◌≤◌}
 use native.Mathlib.Omega.{arith}
+use lib.Dec.{leb}
 use lib.IntN.{ℤ, pos}
 use lib.Signed.{le_z_yes}
 use lib.ListN.{length}
 use Rattle.bits.proofs.Tests.{both, by_test, never}
+use Rattle.store.specs.Store as store
 use Rattle.refusal.specs.declared.Refusal.TheVariants.{StateUnsound, CardUnfit}
 use Rattle.receive_rules.specs.Frame.{Frame, Rx}
 use Rattle.receive_rules.specs.Reading as reading
 use Rattle.receive_rules.specs.Reading.{marks, unread_in}
 use Rattle.receive_rules.specs.Sound as side
 use Rattle.receive_rules.specs.View as rx
-use Rattle.receive_rules.proofs.Facts.{sound-told, side_calm}
+use Rattle.receive_rules.proofs.Facts.{sound-told}
 use Rattle.receive_rules.proofs.Count.{Between, encoded_is, beyond_is, few, count-between, count-told}
 use Rattle.card_rules.specs.declared.Card.{Card}
 use Rattle.card_rules.specs.declared.RxStatus.{RxStatus}
@@ -57,8 +59,10 @@ module _ (c : Card) (ram dir : List ℕ) where
 
   -- the receive side of a sound card is sound
   side_sound : sound_card c ram dir ≡ true → side.sound (rx_size_of c) x ≡ true
-  unfolding sound_card x
-  side_sound h = side_calm (rx_size_of c) c.receive ram dir (both (rx.sound_side (rx_size_of c) c.receive ram dir) _ h).0
+  unfolding sound_card rx.sound_side x
+  side_sound h =
+      let used : ℕ = store.room_of (store.words (rx.rx_area (rx_size_of c)) c.receive.frames dir) in
+      (both (leb c.receive.frames 768 && leb used (rx_size_of c)) (side.sound (rx_size_of c) x) (both (rx.sound_side (rx_size_of c) c.receive ram dir) _ h).0).1
 
   module _ (s : sound_card c ram dir ≡ true) where
     -- of an active card

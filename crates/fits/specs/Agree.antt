@@ -38,14 +38,9 @@ pub record End : Type 0 where
 abbrev pub shown : End → Adapter
 shown e = view e.card e.ram e.dir
 
--- RX Free and TX Free, which stand in the card as counts
-abbrev pub SameCounts : Card → Card → Type 0
-SameCounts c c' = (c.receive.free ≡ c'.receive.free) × (c.transmit.fifo.free ≡ c'.transmit.fifo.free)
-
--- The ends show the same adapter and have the same counts; where the call is refused, they are equal in every byte.
+-- The ends show the same adapter; where the call is refused, they are equal in every byte.
 pub record SameEnd (refused : Bool) (e e' : End) : Type 0 where
   pub shows : shown e ≡ shown e'
-  pub counts : SameCounts e.card e'.card
   pub whole : refused ≡ true → e ≡ e'
 
 abbrev pub is_refusal : Reply → Bool

@@ -40,7 +40,7 @@ use Rattle.driver_rules.specs.declared.Serviced.{Serviced}
 use Rattle.driver_rules.specs.Paper.{open_paper, send_paper, service_paper}
 use Rattle.driver_rules.specs.Calls.{Opens, Sends, Services}
 use Rattle.driver_rules.specs.HandUp.{HandsUp}
-use Rattle.fits.specs.Agree.{With, WithAreas, Over, End, SameCounts, SameEnd, is_refusal, Left, SameLeft}
+use Rattle.fits.specs.Agree.{With, WithAreas, Over, End, SameEnd, is_refusal, Left, SameLeft}
 
 -- Two results that meet a contract agree.
 module _ {A : Type 0} where
@@ -158,7 +158,7 @@ pub record OneLine (meets : Text → Type 0) (line : List ℕ) : Type 0 where
 pub record NothingElseFits : Type 0 where
   -- card: the end is that of power-on whatever the memory holds
   pub power_on_call : (words ram dir : List ℕ) → length ram ≡ 8192 → length dir ≡ 1110
-      → Only (contract.PowerOn words) (λ r r'. (view r ram dir ≡ view r' ram dir) × SameCounts r r')
+      → Only (contract.PowerOn words) (λ r r'. view r ram dir ≡ view r' ram dir)
   pub card : (c : Card) (ram dir : List ℕ) → CardCalls c ram dir
   pub driver : (c : Card) (ram dir : List ℕ) (d : Driver) → DriverCalls c ram dir d
   -- the part handed up: its bytes, and its place

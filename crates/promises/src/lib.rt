@@ -9,7 +9,6 @@ ghost use Rattle.found.specs.Theorems.{TheSearchFindsEveryCard};
 ghost use Rattle.bench_table.specs.Table.{TheBenchTable};
 ghost use Rattle.runs.specs.Sound.{EveryStepKeepsSoundness};
 ghost use Rattle.run_calls.specs.Takes.{TheCallsTakeTheSteps};
-ghost use Rattle.run_calls.specs.Counts.{EachCountIsTheSum};
 
 mod beside; // beside.rt: what stands beside the promises
 mod over_runs; // over_runs.rt: demands 2 and 3 over runs, from which those over calls follow
@@ -63,11 +62,6 @@ pub fn the_bench_table()
 // Power-on is sound with any words, and every step keeps soundness.
 pub fn every_step_keeps_soundness()
     ensures { EveryStepKeepsSoundness }
-{}
-
-// RX Free and TX Free stand in the card as counts: from power-on through any public calls each of them is the sum over what is stored.
-pub fn each_count_is_the_sum()
-    ensures { EachCountIsTheSum }
 {}
 
 // Any public calls, one after the other, leave and answer what the run of their events does: so what is promised of runs is promised of the code.

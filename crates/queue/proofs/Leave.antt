@@ -14,8 +14,7 @@ use Rattle.transmit_rules.specs.Leave.{others, leave}
 use Rattle.transmit_rules.specs.QueueView.{tx_area, packets_of, part_of, queue_of, Holds, Turns}
 use Rattle.transmit_rules.specs.declared.Fifo.{Fifo}
 use Rattle.transmit_rules.proofs.Parts.{part-part, get_d_part, frames-same}
-use Rattle.transmit_rules.proofs.Facts.{facts, shares}
-use Rattle.transmit_rules.proofs.Put.{packed_as}
+use Rattle.transmit_rules.proofs.Facts.{facts}
 
 same-part : (size k words : ℕ) (ram dir ram' dir' : List ℕ) → get_or dir' (768 + k) 0 ≡ get_or dir (768 + suc k) 0
     → part (8192 - size + room_of (part 768 k dir')) (2 * (words - 2)) ram' ≡ part (8192 - size + room_of (part 768 (suc k) dir)) (2 * (words - 2)) ram
@@ -24,19 +23,13 @@ unfolding part_of
 same-part size k zero ram dir ram' dir' e d = refl
 same-part size k (suc j) ram dir ram' dir' e d = ap₂ (λ (x : ℕ) (y : List ℕ). record { words = suc j; preamble = x; bytes = y }) e d
 
--- the room of the packet that leaves, and 4 for its preamble, return to what is free
-returned : (size r rest k words left after : ℕ) → r + rest + 4 * suc k + 2 * words + left ≡ size → after ≡ left + r + 4 → after ≡ size - (rest + 4 * k + 2 * words)
-returned size r rest k words left after whole back = omega arith
-
 -- n is one more than what is left
-leaves_suc : (size r t k words left after : ℕ) (failed : Bool) (ram dir : List ℕ) → store.Sound (tx_area size) (suc k) ram dir → suc k < 342
-    → r ≡ round4 (len_of (get_or dir 768 0)) → r + t ≡ room_of (part 768 (suc k) dir) + 2 * (words - 2) → room_of (part 768 (suc k) dir) + 4 * suc k + 2 * words + left ≡ size
-    → after ≡ left + r + 4
-    → Turns size (record { failed = failed; free = after; packets = k; words = words }) ram dir (shifted ram (8192 - size) r t) (shifted dir 768 1 (suc k))
-    (leave (queue_of size (record { failed = failed; free = left; packets = suc k; words = words }) ram dir))
+leaves_suc : (size r t k words : ℕ) (failed : Bool) (ram dir : List ℕ) → store.Sound (tx_area size) (suc k) ram dir → suc k < 342
+    → r ≡ round4 (len_of (get_or dir 768 0)) → r + t ≡ room_of (part 768 (suc k) dir) + 2 * (words - 2) → r + t ≤ size
+    → Turns size (record { failed = failed; packets = k; words = words }) ram dir (shifted ram (8192 - size) r t) (shifted dir 768 1 (suc k))
+    (leave (queue_of size (record { failed = failed; packets = suc k; words = words }) ram dir))
 unfolding frames others room_of
-leaves_suc size r t k words left after failed ram dir S place p q whole back =
-    let h : r + t ≤ size = omega arith in
+leaves_suc size r t k words failed ram dir S place p q h =
     let base : ℕ = 8192 - size in
     let ws : List ℕ = part 769 k dir in
     let w : ℕ = get_or dir 768 0 in
@@ -71,22 +64,19 @@ leaves_suc size r t k words left after failed ram dir S place p q whole back =
     ∙ ap (λ (i : ℕ). part i (2 * (words - 2)) ram) z in
     record {
       holds = ap₂ (λ (x : List Frame) (y : Part). record { failed = failed; packets = x; part = y }) packets (same-part size k words ram dir ram' dir' pre bytes);
-      packed = packed_as size (record { failed = failed; free = after; packets = k; words = words }) ram' dir'
-          (record { in_ram = omega (arith, kr.long); in_dir = omega (arith, kd.long); few = omega arith; small = S.small; room = rw new (omega arith) })
-          (rw new (returned size r (room_of ws) k words left after (rw sum at whole) back));
+      packed = record { in_ram = omega (arith, kr.long); in_dir = omega (arith, kd.long); few = omega arith; small = S.small; room = rw new (omega arith) };
       ram_kept = kr;
       dir_kept = kd;
     }
 
-leaves-n : (size r t n words left after : ℕ) (failed : Bool) (ram dir : List ℕ) → store.Sound (tx_area size) n ram dir → n < 342 → 0 < n
-    → r ≡ round4 (len_of (get_or dir 768 0)) → r + t ≡ room_of (part 768 n dir) + 2 * (words - 2) → room_of (part 768 n dir) + 4 * n + 2 * words + left ≡ size
-    → after ≡ left + r + 4
-    → Turns size (record { failed = failed; free = after; packets = n - 1; words = words }) ram dir (shifted ram (8192 - size) r t) (shifted dir 768 1 n)
-    (leave (queue_of size (record { failed = failed; free = left; packets = n; words = words }) ram dir))
-leaves-n size r t zero words left after failed ram dir S place some p q whole back = absurd (omega arith)
-leaves-n size r t (suc k) words left after failed ram dir S place some p q whole back =
+leaves-n : (size r t n words : ℕ) (failed : Bool) (ram dir : List ℕ) → store.Sound (tx_area size) n ram dir → n < 342 → 0 < n
+    → r ≡ round4 (len_of (get_or dir 768 0)) → r + t ≡ room_of (part 768 n dir) + 2 * (words - 2) → r + t ≤ size
+    → Turns size (record { failed = failed; packets = n - 1; words = words }) ram dir (shifted ram (8192 - size) r t) (shifted dir 768 1 n)
+    (leave (queue_of size (record { failed = failed; packets = n; words = words }) ram dir))
+leaves-n size r t zero words failed ram dir S place some p q h = absurd (omega arith)
+leaves-n size r t (suc k) words failed ram dir S place some p q h =
     let e : suc k - 1 ≡ k = omega arith in
-    rw e (leaves_suc size r t k words left after failed ram dir S place p q whole back)
+    rw e (leaves_suc size r t k words failed ram dir S place p q h)
 
 -- the oldest's room is part of the whole
 pub oldest-room : (size n : ℕ) (ram dir : List ℕ) → store.Sound (tx_area size) n ram dir → 0 < n → round4 (len_of (get_or dir 768 0)) ≤ room_of (part 768 n dir)
@@ -98,8 +88,9 @@ oldest-room size (suc k) ram dir S h =
     let cons : part 768 (suc k) dir ≡ get_or dir 768 0 ∷ part 769 k dir = part_cons dir 768 k (omega arith) in
     rw cons (omega arith)
 
-pub leaves : (size r t after : ℕ) (f : Fifo) (ram dir : List ℕ) → Holds size f ram dir → 0 < f.packets
-    → r ≡ round4 (len_of (get_or dir 768 0)) → r + t ≡ room_of (part 768 f.packets dir) + 2 * (f.words - 2) → after ≡ f.free + r + 4
-    → Turns size (record { failed = f.failed; free = after; packets = f.packets - 1; words = f.words }) ram dir (shifted ram (8192 - size) r t) (shifted dir 768 1 f.packets) (leave (queue_of size f ram dir))
-leaves size r t after f ram dir H some p q back =
-    leaves-n size r t f.packets f.words f.free after f.failed ram dir H.packed.lies (facts size f ram dir H).place some p q (shares size f ram dir H) back
+pub leaves : (size r t : ℕ) (f : Fifo) (ram dir : List ℕ) → Holds size f ram dir → 0 < f.packets
+    → r ≡ round4 (len_of (get_or dir 768 0)) → r + t ≡ room_of (part 768 f.packets dir) + 2 * (f.words - 2)
+    → Turns size (record { failed = f.failed; packets = f.packets - 1; words = f.words }) ram dir (shifted ram (8192 - size) r t) (shifted dir 768 1 f.packets) (leave (queue_of size f ram dir))
+leaves size r t f ram dir H some p q =
+    let F = facts size f ram dir H in
+    leaves-n size r t f.packets f.words f.failed ram dir H.packed F.place some p q (omega (arith, F.space))

@@ -104,7 +104,7 @@ pub first_short : (size : ℕ) (f : Fifo) (ram dir : List ℕ) → Holds size f 
 unfolding all_sized
 first_short size f ram dir H some =
     let w : ℕ = get_or dir 768 0 in
-    let S = H.packed.lies in
+    let S = H.packed in
     let inside : 8192 - size + len_of w ≤ length ram = omega (arith, oldest-room size f.packets ram dir S some, S.room, S.in_ram) in
     let e : length (part (8192 - size) (len_of w) ram) ≡ len_of w = part_length ram (8192 - size) (len_of w) inside in
     let g = both (sized (length (part (8192 - size) (len_of w) ram))) (all_sized (others (packets_of size f.packets ram dir))) (rw (first_shape size f.packets ram dir S some) at (sizes size f ram dir H)) in
@@ -119,7 +119,7 @@ pub tells : (size n : ℕ) (f : Fifo) (ram dir out out' : List ℕ) → Holds si
 unfolding told_of
 tells size n f ram dir out out' H some e d =
     let w : ℕ = get_or dir 768 0 in
-    let S = H.packed.lies in
+    let S = H.packed in
     let inside = (first_short size f ram dir H some).1 in
     let l : length (part (8192 - size) (len_of w) ram) ≡ len_of w = part_length ram (8192 - size) (len_of w) inside in
     let pad : ℕ = cond (has 4 (w / 2048)) 0 (60 - len_of w) in

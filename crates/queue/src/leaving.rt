@@ -26,21 +26,20 @@ pub fn tell(ram: &[u8], dir: &[u16], size: usize, f: Fifo, out: &mut [u8]) -> us
     n
 }
 
-// The oldest packet leaves, and its room returns; those behind it move down, and what has come of the one being written.
+// The oldest packet leaves; those behind it move down, and what has come of the one being written.
 pub fn leave_first(ram: &mut [u8], dir: &mut [u16], size: usize, f: Fifo) -> Fifo
     requires { Holds size f ram.old dir.old × (0 < f.packets) }
     ensures { Turns size result ram.old dir.old ram.new dir.new (leave (queue_of size f ram.old dir.old)) }
 {
     let n = f.packets;
     let k = f.words;
-    let all = size - f.free as usize - 4 * n - 2 * k;
+    let all = store::used(dir, FIRST, n);
     let gone = store::room(dir[FIRST]);
     let data = data_bytes(k);
     store::shift_bytes(ram, RAM - size, gone, all - gone + data);
     store::shift_words(dir, FIRST, 1, n);
     Fifo {
         failed: f.failed,
-        free: f.free + (gone + 4) as u16,
         packets: n - 1,
         words: k,
     }

@@ -1,5 +1,6 @@
 // The transmit FIFO's memory: the packets written whole, and the packet being written.
 ghost use Rattle.std.specs.Prelude.{◌≡◌, ◌≤◌, length};
+ghost use Rattle.transmit_rules.specs.Queue.{free};
 ghost use Rattle.transmit_rules.specs.Write.{put};
 ghost use Rattle.transmit_rules.specs.QueueView.{queue_of, Holds, Turns, sound_fifo};
 
@@ -32,16 +33,26 @@ pub fn fifo_sound(ram: &[u8], dir: &[u16], size: usize, f: Fifo) -> bool
     if 341 < n {
         return false;
     }
-    if 2048 < k {
+    let used = store::used(dir, FIRST, n);
+    if size < used {
         return false;
     }
-    let used = store::used(dir, FIRST, n);
-    if used + 4 * n + 2 * k + f.free as usize != size {
+    if 2048 < k {
         return false;
     }
     let whole = good::good_words(dir, n);
     let part = good::good_part(dir, n, k);
-    whole & part
+    (used + 4 * n + 2 * k <= size) & whole & part
+}
+
+// TX Free.
+pub fn fifo_free(ram: &[u8], dir: &[u16], size: usize, f: Fifo) -> usize
+    requires { Holds size f ram.now dir.now }
+    ensures { result ≡ free size (queue_of size f ram.now dir.now) }
+{
+    let n = f.packets;
+    let k = f.words;
+    size - (store::used(dir, FIRST, n) + 4 * n + 2 * k)
 }
 
 // The host writes a word.
@@ -54,11 +65,10 @@ pub fn put_word(ram: &mut [u8], dir: &mut [u16], size: usize, f: Fifo, v: u16) -
     if f.failed {
         return f;
     }
-    let free = f.free;
-    if free < 2 {
+    let used = store::used(dir, FIRST, n);
+    if size < used + 4 * n + 2 * k + 2 {
         return Fifo {
             failed: true,
-            free: free,
             packets: n,
             words: k,
         };
@@ -69,10 +79,9 @@ pub fn put_word(ram: &mut [u8], dir: &mut [u16], size: usize, f: Fifo, v: u16) -
     if k == 1 {
         return Fifo {
             failed: false,
-            free: free - 2,
             packets: n,
             words: 2,
         };
     }
-    words::put_data(ram, dir, size, f, RAM - free as usize - 4 * n - 4, v)
+    words::put_data(ram, dir, size, f, RAM - size + used + 2 * (k - 2), v)
 }

@@ -19,14 +19,12 @@ pub fn put_first(ram: &[u8], dir: &mut [u16], size: usize, f: Fifo, v: u16) -> F
         dir[FIRST + n] = v;
         return Fifo {
             failed: false,
-            free: f.free - 2,
             packets: n,
             words: 1,
         };
     }
     Fifo {
         failed: true,
-        free: f.free,
         packets: n,
         words: 0,
     }
@@ -46,14 +44,12 @@ pub fn put_data(ram: &mut [u8], dir: &[u16], size: usize, f: Fifo, at: usize, v:
     if 2 * k == (len + 3) / 4 * 4 + 2 {
         return Fifo {
             failed: f.failed,
-            free: f.free - 2,
             packets: n + 1,
             words: 0,
         };
     }
     Fifo {
         failed: f.failed,
-        free: f.free - 2,
         packets: n,
         words: k + 1,
     }

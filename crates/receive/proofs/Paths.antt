@@ -11,15 +11,13 @@ use Rattle.store.specs.Store as store
 use Rattle.store.specs.Store.{at_newest, round4, room_in, headed, begun}
 use Rattle.store.proofs.Laws.{at_snoc, newest_snoc, older_snoc, snoc_not}
 use Rattle.store.proofs.Lift.{Last, last, becomes_same, after}
-use Rattle.receive_rules.specs.Frame.{coming, Frame, overran, room}
-use Rattle.receive_rules.specs.Reading.{rx_free}
+use Rattle.receive_rules.specs.Frame.{coming, Frame, overran}
 use Rattle.receive_rules.specs.Wire.{fresh, longer, fits, full, takes, ending, ends}
 use Rattle.receive_rules.specs.Sound.{in_order}
 use Rattle.receive_rules.specs.View.{state_of, told, rx_area, frames_of, Turns}
-use Rattle.bits.proofs.Tests.{neither}
+use Rattle.bits.proofs.Tests.{never, neither}
 use Rattle.receive_rules.proofs.Laws.{overran-word, room-told, room_snoc, map_snoc, lift}
 use Rattle.receive_rules.proofs.Taking.{newest-coming, takes_none, takes-marks, takes-longer}
-use Rattle.receive.proofs.Free.{free_shared, free-marked}
 
 -- ---- the frames, told, are the others and the newest
 
@@ -46,15 +44,12 @@ module _ (size n w : ℕ) (ram dir : List ℕ) (L : Last (rx_area size) n w ram 
   becomes : (g : Frame → Frame) (f : Frame) → g tip ≡ f → rest ++ (f ∷ []) ≡ at_newest g (frames_of size n ram dir)
   becomes g f e = sym (changed g ∙ ap (λ (x : Frame). rest ++ (x ∷ [])) e)
 
-  -- the room with one byte more, and whether it fits
-  room-longer : (b : ℕ) → room (at_newest (longer b) (frames_of size n ram dir)) ≡ room_in L.others + (w % 2048 + 4) / 4 * 4
+  -- whether one byte more fits
+  fitting : (b : ℕ) → fits size b (frames_of size n ram dir) ≡ leb (room_in L.others + (w % 2048 + 4) / 4 * 4) size
   unfolding rest tip
-  room-longer b =
+  fitting b =
       let e : w % 2048 + 1 + 3 ≡ w % 2048 + 4 = omega arith in
       rw (changed (longer b), room_snoc rest (longer b tip), room-told L.others, length-append L.bytes (b ∷ []), L.len, e)
-
-  fitting : (b : ℕ) → fits size b (frames_of size n ram dir) ≡ leb (room_in L.others + (w % 2048 + 4) / 4 * 4) size
-  fitting b = ap (λ (m : ℕ). leb m size) (room-longer b)
 
   -- the test before a byte is stored
   closed : (t : Bool) → (leb 49152 w || leb 1792 (w % 2048)) ≡ t → (overran tip.state || full tip) ≡ t
@@ -76,10 +71,6 @@ module _ (size n w : ℕ) (ram dir : List ℕ) (L : Last (rx_area size) n w ram 
   unfolding tip
   taken b t = told_changed (store.extended b) ∙ becomes (takes b true) (longer b tip) (takes-longer b tip (closed false t))
 
-  room-taken : (b : ℕ) → (leb 49152 w || leb 1792 (w % 2048)) ≡ false
-      → room (at_newest (takes b true) (frames_of size n ram dir)) ≡ room_in L.others + (w % 2048 + 4) / 4 * 4
-  room-taken b t = ap room (changed (takes b true) ∙ becomes (longer b) (takes b true tip) (sym (takes-longer b tip (closed false t)))) ∙ room-longer b
-
   ended : (h : ℕ) (check alignment : Bool) → state_of h ≡ ending (leb 49152 w) (w % 2048) check alignment
       → map told (at_newest (headed h) (store.view (rx_area size) n ram dir)) ≡ at_newest (ends check alignment) (frames_of size n ram dir)
   unfolding tip
@@ -99,45 +90,42 @@ newest_of size n ram dir S h =
     let e : 0 + n - 1 ≡ n - 1 = omega arith in
     rw e at (last (rx_area size) n ram dir S h)
 
--- ---- a byte is dropped, marks the frame, or is taken: the three ways of the code, each with RX Free after it
+-- ---- a byte is dropped, marks the frame, or is taken: the three ways of the code
 
-module _ (size n b free : ℕ) (ram dir : List ℕ) (S : store.Sound (rx_area size) n ram dir) (h : 0 < n) (c : free ≡ rx_free size (frames_of size n ram dir)) where
-  abbrev after-byte : List Frame
-  after-byte = at_newest (takes b (fits size b (frames_of size n ram dir))) (frames_of size n ram dir)
-
-  pub byte-dropped : (leb 49152 (get_or dir (n - 1) 0) || leb 1792 (get_or dir (n - 1) 0 % 2048)) ≡ true → Turns size ram dir ram dir n after-byte × (free ≡ rx_free size after-byte)
+module _ (size n b : ℕ) (ram dir : List ℕ) (S : store.Sound (rx_area size) n ram dir) (h : 0 < n) where
+  pub byte-dropped : (leb 49152 (get_or dir (n - 1) 0) || leb 1792 (get_or dir (n - 1) 0 % 2048)) ≡ true
+      → Turns size ram dir ram dir n (at_newest (takes b (fits size b (frames_of size n ram dir))) (frames_of size n ram dir))
   byte-dropped t =
-      let e = dropped size n (get_or dir (n - 1) 0) ram dir (newest_of size n ram dir S h) b (fits size b (frames_of size n ram dir)) t in
-      (lift size ram dir ram dir n _ _ (becomes_same (rx_area size) n ram dir S) e, c ∙ ap (rx_free size) e)
+      lift size ram dir ram dir n _ _ (becomes_same (rx_area size) n ram dir S)
+      (dropped size n (get_or dir (n - 1) 0) ram dir (newest_of size n ram dir S h) b (fits size b (frames_of size n ram dir)) t)
 
-  -- before the newest frame there are `older` bytes
-  module _ (older : ℕ) (u : older ≡ size - free - round4 (get_or dir (n - 1) 0 % 2048)) (t : (leb 49152 (get_or dir (n - 1) 0) || leb 1792 (get_or dir (n - 1) 0 % 2048)) ≡ false) where
-    older-room : older ≡ room_in (newest_of size n ram dir S h).others
-    older-room = omega (arith, (newest_of size n ram dir S h).sum, free_shared size n free ram dir S c)
-
-    pub byte-marks : (ram' dir' : List ℕ) → in_order true (frames_of size n ram dir) ≡ true → size < older + (get_or dir (n - 1) 0 % 2048 + 4) / 4 * 4
+  module _ (used : ℕ) (u : used ≡ store.room_of (store.words (rx_area size) n dir)) (t : (leb 49152 (get_or dir (n - 1) 0) || leb 1792 (get_or dir (n - 1) 0 % 2048)) ≡ false) where
+    pub byte-marks : (ram' dir' : List ℕ) → in_order true (frames_of size n ram dir) ≡ true
+        → size < used - round4 (get_or dir (n - 1) 0 % 2048) + (get_or dir (n - 1) 0 % 2048 + 4) / 4 * 4
         → store.Becomes (rx_area size) ram dir ram' dir' n (at_newest (headed 24) (store.view (rx_area size) n ram dir))
-        → Turns size ram dir ram' dir' n after-byte × (free ≡ rx_free size after-byte)
+        → Turns size ram dir ram' dir' n (at_newest (takes b (fits size b (frames_of size n ram dir))) (frames_of size n ram dir))
     byte-marks ram' dir' o k B =
         let w : ℕ = get_or dir (n - 1) 0 in
         let L = newest_of size n ram dir S h in
-        let e : fits size b (frames_of size n ram dir) ≡ false = fitting size n w ram dir L b ∙ lt-leb (room_in L.others + (w % 2048 + 4) / 4 * 4) size (omega (arith, older-room)) in
-        rw e (lift size ram dir ram' dir' n _ _ B (marks size n w ram dir L b o t), free-marked size n free ram dir S c b)
+        let e : fits size b (frames_of size n ram dir) ≡ false = fitting size n w ram dir L b ∙ lt-leb (room_in L.others + (w % 2048 + 4) / 4 * 4) size (omega arith) in
+        rw e (lift size ram dir ram' dir' n _ _ B (marks size n w ram dir L b o t))
 
-    pub byte-taken : (ram' dir' : List ℕ) → older + (get_or dir (n - 1) 0 % 2048 + 4) / 4 * 4 ≤ size
+    pub byte-taken : (ram' dir' : List ℕ) → used - round4 (get_or dir (n - 1) 0 % 2048) + (get_or dir (n - 1) 0 % 2048 + 4) / 4 * 4 ≤ size
         → store.Becomes (rx_area size) ram dir ram' dir' n (at_newest (store.extended b) (store.view (rx_area size) n ram dir))
-        → Turns size ram dir ram' dir' n after-byte × (size - (older + (get_or dir (n - 1) 0 % 2048 + 4) / 4 * 4) ≡ rx_free size after-byte)
+        → Turns size ram dir ram' dir' n (at_newest (takes b (fits size b (frames_of size n ram dir))) (frames_of size n ram dir))
     byte-taken ram' dir' k B =
         let w : ℕ = get_or dir (n - 1) 0 in
         let L = newest_of size n ram dir S h in
-        let e : fits size b (frames_of size n ram dir) ≡ true = fitting size n w ram dir L b ∙ le-leb (room_in L.others + (w % 2048 + 4) / 4 * 4) size (omega (arith, older-room)) in
-        rw e (lift size ram dir ram' dir' n _ _ B (taken size n w ram dir L b t), omega (arith, older-room, room-taken size n w ram dir L b t))
+        let e : fits size b (frames_of size n ram dir) ≡ true = fitting size n w ram dir L b ∙ le-leb (room_in L.others + (w % 2048 + 4) / 4 * 4) size (omega arith) in
+        rw e (lift size ram dir ram' dir' n _ _ B (taken size n w ram dir L b t))
 
-    pub byte_open : older + (get_or dir (n - 1) 0 % 2048 + 4) / 4 * 4 ≤ size → store.Open (rx_area size) (older + get_or dir (n - 1) 0 % 2048) 1 (store.view (rx_area size) n ram dir)
+    pub byte_open : used - round4 (get_or dir (n - 1) 0 % 2048) + (get_or dir (n - 1) 0 % 2048 + 4) / 4 * 4 ≤ size
+        → store.Open (rx_area size) (used - round4 (get_or dir (n - 1) 0 % 2048) + get_or dir (n - 1) 0 % 2048) 1 (store.view (rx_area size) n ram dir)
     byte_open k =
         let w : ℕ = get_or dir (n - 1) 0 in
         let L = newest_of size n ram dir S h in
-        rw older-room (opening size n w ram dir L (leb-false 1792 (w % 2048) (neither (leb 49152 w) (leb 1792 (w % 2048)) t).1) (omega (arith, older-room)))
+        let e : used - round4 (w % 2048) + w % 2048 ≡ room_in L.others + w % 2048 = omega arith in
+        rw e (opening size n w ram dir L (leb-false 1792 (w % 2048) (neither (leb 49152 w) (leb 1792 (w % 2048)) t).1) (omega arith))
 
 -- ---- the newest frame ends with the flags h
 

@@ -1,10 +1,10 @@
 // The receive side, as functions.
 
-pub mod reading; // reading.rt: what the host reads of the receive side, and the commands that drop frames: the unread bytes, RX Status, RX Complete, the data read, RX Discard
+pub mod reading; // reading.rt: what the host reads of the receive side, and the commands that drop frames: the unread bytes, RX Status, RX Complete, RX Free, the data read, RX Discard
 pub mod sound; // sound.rt: the receive side of the card: its registers, the frames stored, RX Early, and the test of its soundness
 pub mod wire; // wire.rt: the wire: a frame's start with its first 8 bytes, its single bytes, and its end
 
-pub use reading::{deafen, discard, read_data, rx_complete, rx_status, unread};
+pub use reading::{deafen, discard, read_data, rx_complete, rx_free, rx_status, unread};
 pub use sound::{early_settled, rx_sound, settle_early};
 pub use wire::{passes_filter, wire_byte, wire_end, wire_start};
 

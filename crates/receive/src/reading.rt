@@ -1,9 +1,9 @@
-// What the host reads of the receive side, and the commands that drop frames: the unread bytes, RX Status, RX Complete, the data read, RX Discard.
+// What the host reads of the receive side, and the commands that drop frames: the unread bytes, RX Status, RX Complete, RX Free, the data read, RX Discard.
 ghost use Rattle.std.specs.Prelude.{◌≡◌, ◌<◌, get_or};
 ghost use Rattle.std.specs.Int.Signed.{mag};
 ghost use Rattle.store.specs.Store as store;
 ghost use Rattle.receive_rules.specs.Count.{encoded as encoded_of};
-ghost use Rattle.receive_rules.specs.Reading.{unread_in, rx_status, complete, oldest, pad_in, left_in, data_word, after_read, discard as discard_of, deafened};
+ghost use Rattle.receive_rules.specs.Reading.{unread_in, rx_status, complete, rx_free, oldest, pad_in, left_in, data_word, after_read, discard as discard_of, deafened};
 ghost use Rattle.receive_rules.specs.View.{rx_area, frames_of, rx_of, Sound, Step};
 
 use crate::{COMING, SLOTS};
@@ -66,6 +66,15 @@ pub fn rx_complete(ram: &[u8], dir: &[u16], size: usize, r: Receive) -> bool
     }
     let w = dir[0];
     !(COMING <= w)
+}
+
+// RX Free: the room that no stored frame takes.
+pub fn rx_free(ram: &[u8], dir: &[u16], size: usize, r: Receive) -> usize
+    requires { Sound size r ram.now dir.now }
+    ensures { result ≡ rx_free size (frames_of size r.frames ram.now dir.now) }
+{
+    let count = r.frames;
+    size - store::used(dir, 0, count)
 }
 
 // A byte of the oldest frame, or 0 past its end.
@@ -154,7 +163,7 @@ pub fn read_data(ram: &[u8], dir: &[u16], size: usize, r: Receive) -> Got
     }
 }
 
-// RX Discard: the oldest frame leaves, and its room returns; of an unfinished one the rest is ignored too.
+// RX Discard: the oldest frame leaves; of an unfinished one the rest is ignored too.
 pub fn discard(ram: &mut [u8], dir: &mut [u16], size: usize, r: Receive) -> Receive
     requires { Sound size r ram.old dir.old }
     ensures { Step size result ram.old dir.old ram.new dir.new (discard_of (rx_of size r ram.old dir.old)) }
@@ -173,11 +182,9 @@ pub fn discard(ram: &mut [u8], dir: &mut [u16], size: usize, r: Receive) -> Rece
         slots: SLOTS,
     };
     let w = dir[0];
-    let free = r.free + store::room(w) as u16;
-    store::drop_first(ram, dir, a, count, size - r.free as usize);
+    store::drop_first(ram, dir, a, count);
     let rest = count - 1;
     let mut next = r;
-    next.free = free;
     next.frames = rest;
     next.receiver.early = false;
     next.receiver.told = false;

@@ -103,7 +103,7 @@ pub fn rx_sound(ram: &[u8], dir: &[u16], size: usize, r: Receive) -> bool
     if SLOTS < count {
         return false;
     }
-    if store::used(dir, 0, count) + r.free as usize != size {
+    if size < store::used(dir, 0, count) {
         return false;
     }
     let a = r.receiver;

@@ -3,7 +3,6 @@ ghost use Rattle.std.specs.Prelude.{◌≡◌, true, ◌<◌, ◌≤◌, ◌%◌
 ghost use Rattle.store.specs.Store.{at_newest};
 ghost use Rattle.store.specs.Store as store;
 ghost use Rattle.receive_rules.specs.Wire.{address, passes, wire_start, fits, takes, wire_byte, ending, wire_end};
-ghost use Rattle.receive_rules.specs.Reading.{rx_free};
 ghost use Rattle.receive_rules.specs.Sound.{in_order};
 ghost use Rattle.receive_rules.specs.View.{state_of, rx_area, frames_of, rx_of, Sound, Turns, Step};
 
@@ -47,8 +46,8 @@ pub fn wire_start(
 {
     let mut next = r;
     let count = r.frames;
-    let free = r.free;
-    if taken & (r.receiver.on & (8 <= free)) {
+    let used = store::used(dir, 0, count);
+    if taken & (r.receiver.on & (used + 8 <= size)) {
         let a = Area {
             base: 0,
             size: size,
@@ -57,10 +56,8 @@ pub fn wire_start(
         };
         let n = count + 1;
         store::begin(ram, dir, a, count, 16);
-        store::append_bytes(ram, dir, a, n, size - free as usize, &first);
-        let left = free - 8;
+        store::append_bytes(ram, dir, a, n, used, &first);
         next.receiver.wire = 2;
-        next.free = left;
         next.frames = n;
         return next;
     }
@@ -68,12 +65,10 @@ pub fn wire_start(
     next
 }
 
-// A byte for the newest frame, which is coming: dropped after an overrun and past 1,792; without room it marks the frame. `free` is RX Free, and so is the answer after it.
-fn store_byte(ram: &mut [u8], dir: &mut [u16], size: usize, count: usize, free: u16, b: u8) -> u16
-    requires sound { store.Sound (rx_area size) count ram.old dir.old × (0 < count) × (size ≤ 6144) × (in_order true (frames_of size count ram.old dir.old) ≡ true) }
-    requires free_value { free ≡ rx_free size (frames_of size count ram.old dir.old) }
-    ensures turns { Turns size ram.old dir.old ram.new dir.new count (at_newest (takes b (fits size b (frames_of size count ram.old dir.old))) (frames_of size count ram.old dir.old)) }
-    ensures value { result ≡ rx_free size (at_newest (takes b (fits size b (frames_of size count ram.old dir.old))) (frames_of size count ram.old dir.old)) }
+// A byte for the newest frame, which is coming: dropped after an overrun and past 1,792; without room it marks the frame.
+fn store_byte(ram: &mut [u8], dir: &mut [u16], size: usize, count: usize, b: u8)
+    requires { store.Sound (rx_area size) count ram.old dir.old × (0 < count) × (size ≤ 6144) × (in_order true (frames_of size count ram.old dir.old) ≡ true) }
+    ensures { Turns size ram.old dir.old ram.new dir.new count (at_newest (takes b (fits size b (frames_of size count ram.old dir.old))) (frames_of size count ram.old dir.old)) }
 {
     let a = Area {
         base: 0,
@@ -84,30 +79,24 @@ fn store_byte(ram: &mut [u8], dir: &mut [u16], size: usize, count: usize, free: 
     let last = dir[count - 1];
     let n = (last % 2048) as usize;
     if (OVERRUN <= last) | (LONGEST <= last % 2048) {
-        return free;
+        return;
     }
-    let older = size - free as usize - store::room(last);
-    let longer = older + (n + 4) / 4 * 4;
-    if size < longer {
+    let older = store::used(dir, 0, count) - store::room(last);
+    if size < older + (n + 4) / 4 * 4 {
         store::set_head(ram, dir, a, count, 24);
-        return free;
+        return;
     }
     store::append_byte(ram, dir, a, count, older + n, b);
-    (size - longer) as u16
 }
 
 // A byte of a frame. That of a frame that is ignored changes nothing.
-pub fn wire_byte(ram: &mut [u8], dir: &mut [u16], size: usize, r: Receive, b: u8) -> Receive
+pub fn wire_byte(ram: &mut [u8], dir: &mut [u16], size: usize, r: Receive, b: u8)
     requires { Sound size r ram.old dir.old }
-    ensures { Step size result ram.old dir.old ram.new dir.new (wire_byte size b (rx_of size r ram.old dir.old)) }
+    ensures { Step size r ram.old dir.old ram.new dir.new (wire_byte size b (rx_of size r ram.old dir.old)) }
 {
-    if r.receiver.wire != 2 {
-        return r;
+    if r.receiver.wire == 2 {
+        store_byte(ram, dir, size, r.frames, b);
     }
-    let free = store_byte(ram, dir, size, r.frames, r.free, b);
-    let mut next = r;
-    next.free = free;
-    next
 }
 
 // Bits 15 to 11 of the word of a frame that ends. Codes, first that holds wins.

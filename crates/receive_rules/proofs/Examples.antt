@@ -170,8 +170,8 @@ unfolding reads count side arriving is_coming after_read early_flag told_flag
 unread-coming = (refl, refl)
 
 -- the words tell them: 1,792 is the most, 1,793 would be -255
-told-counts : (decoded 0x07FF ≡ negsuc 0) × ((decoded 0x07FD ≡ negsuc 2) × ((decoded 0x8000 ≡ pos 0) × ((decoded 0x4DEB ≡ pos 1515) × ((decoded 0x0700 ≡ pos 1792) × (decoded 0x0701 ≡ negsuc 254)))))
-told-counts = (refl, (refl, (refl, (refl, (refl, refl)))))
+told_counts : (decoded 0x07FF ≡ negsuc 0) × ((decoded 0x07FD ≡ negsuc 2) × ((decoded 0x8000 ≡ pos 0) × ((decoded 0x4DEB ≡ pos 1515) × ((decoded 0x0700 ≡ pos 1792) × (decoded 0x0701 ≡ negsuc 254)))))
+told_counts = (refl, (refl, (refl, (refl, (refl, refl)))))
 
 -- the 31st word is the last byte and a zero of the pad
 last_word : data_word (reads 30 (wire_end true true (arriving 61))) ≡ 7
@@ -235,27 +235,22 @@ early_once = refl
 
 -- ---- the test of soundness
 
--- an idle receiver with 64 bytes, n whole frames of 38 in the directory, and this RX Free
-handed : ℕ → ℕ → Bool
-handed n free = sound_side 64 (record { receiver = (side 0 []).receiver; free = free; frames = n }) (replicate 64 7) (replicate 2 38)
+-- an idle receiver with 64 bytes, and n whole frames of 40 in the directory
+handed : ℕ → Bool
+handed n = sound_side 64 (record { receiver = (side 0 []).receiver; frames = n }) (replicate 64 7) (replicate 2 40)
 
--- one fits, and takes 40; two would take 80
-sum_fits : (handed 0 64 ≡ true) × (handed 1 24 ≡ true)
+-- one fits; two would take 80
+sum_fits : handed 1 ≡ true
 unfolding handed side sound_side frames room_of room is_coming state_of in_order readable early_settled
-sum_fits = (refl, refl)
+sum_fits = refl
 
-sum_over : (handed 2 0 ≡ false) × (handed 2 24 ≡ false)
+sum_over : handed 2 ≡ false
 unfolding handed side sound_side frames room_of room is_coming state_of in_order readable early_settled
-sum_over = (refl, refl)
-
--- RX Free is the sum's, and no other: not that of the bytes without their pad, not the whole room
-count_wrong : (handed 1 23 ≡ false) × (handed 1 26 ≡ false) × (handed 1 64 ≡ false) × (handed 0 24 ≡ false)
-unfolding handed side sound_side frames room_of room is_coming state_of in_order readable early_settled
-count_wrong = (refl, refl, refl, refl)
+sum_over = refl
 
 -- an empty store with this threshold: 8 to 2,047
 with_threshold_lem : ℕ → Bool
-with_threshold_lem n = sound_side 64 (record { receiver = with_threshold n (side 0 []).receiver; free = 64; frames = 0 }) (replicate 64 7) []
+with_threshold_lem n = sound_side 64 (record { receiver = with_threshold n (side 0 []).receiver; frames = 0 }) (replicate 64 7) []
 
 threshold_sound : (with_threshold_lem 8 ≡ true) × (with_threshold_lem 2047 ≡ true)
 unfolding with_threshold_lem side sound_side frames room_of room in_order readable early_settled

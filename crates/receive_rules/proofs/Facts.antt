@@ -4,13 +4,13 @@ use mathlib.Core.Bool.{Bool, true, not, ◌&&◌, ◌||◌}
 use mathlib.Core.List.{List}
 use Prim.Native.Nat.{ℕ, zero, suc, ◌≤◌, ◌<◌}
 use native.Mathlib.Omega.{arith}
-use borrow.Author.Tests.{leb-true, eqb-true, le-leb, eq-eqb}
+use borrow.Author.Tests.{leb-true, le-leb, eq-eqb}
 use lib.Dec.{leb, eqb, lit<}
 use lib.ListN.{length}
 use Rattle.store.specs.Store as store
 use Rattle.receive_rules.specs.declared.Receive.{Receive}
 use Rattle.receive_rules.specs.Frame.{Rx, room}
-use Rattle.receive_rules.specs.Reading.{readable, rx_free, early_least}
+use Rattle.receive_rules.specs.Reading.{readable, early_least}
 use Rattle.receive_rules.specs.Sound.{in_order, early_settled, kept, sound}
 use Rattle.receive_rules.specs.View.{frames_of, rx_area, rx_of, Sound, sound_side}
 use Rattle.bits.proofs.Tests.{both, never}
@@ -81,32 +81,20 @@ pub side_told : (size : ℕ) (r : Receive) (ram dir : List ℕ) → size ≤ 614
 unfolding sound_side
 side_told size r ram dir small hr hd h =
     let used : ℕ = store.room_of (store.words (rx_area size) r.frames dir) in
-    let free : ℕ = rx_free size (frames_of size r.frames ram dir) in
-    let p = both (leb r.frames 768 && leb used size && eqb r.free free) (sound size (rx_of size r ram dir)) h in
-    let n = both (leb r.frames 768 && leb used size) (eqb r.free free) p.0 in
-    let q = both (leb r.frames 768) (leb used size) n.0 in
+    let p = both (leb r.frames 768 && leb used size) (sound size (rx_of size r ram dir)) h in
+    let q = both (leb r.frames 768) (leb used size) p.0 in
     record {
       small = small;
       packed = record {
-        lies = record {
-          in_ram = omega arith;
-          in_dir = omega arith;
-          few = leb-true r.frames 768 q.0;
-          small = lit< tt;
-          room = leb-true used size q.1;
-        };
-        counted = eqb-true r.free free n.1;
+        in_ram = omega arith;
+        in_dir = omega arith;
+        few = leb-true r.frames 768 q.0;
+        small = lit< tt;
+        room = leb-true used size q.1;
       };
       calm = p.1;
     }
 
--- .. of memory of any size
-pub side_calm : (size : ℕ) (r : Receive) (ram dir : List ℕ) → sound_side size r ram dir ≡ true → sound size (rx_of size r ram dir) ≡ true
-unfolding sound_side
-side_calm size r ram dir h =
-    let used : ℕ = store.room_of (store.words (rx_area size) r.frames dir) in
-    (both (leb r.frames 768 && leb used size && eqb r.free (rx_free size (frames_of size r.frames ram dir))) (sound size (rx_of size r ram dir)) h).1
-
 pub side_shown : (size : ℕ) (r : Receive) (ram dir : List ℕ) → Sound size r ram dir → sound_side size r ram dir ≡ true
 unfolding sound_side
-side_shown size r ram dir S = rw (le-leb _ _ S.packed.lies.few, le-leb _ _ S.packed.lies.room, eq-eqb _ _ S.packed.counted, S.calm)
+side_shown size r ram dir S = rw (le-leb _ _ S.packed.few, le-leb _ _ S.packed.room, S.calm)

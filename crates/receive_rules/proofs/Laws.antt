@@ -55,7 +55,7 @@ pub lift : (size : ℕ) (ram dir ram' dir' : List ℕ) (n : ℕ) (fs : List stor
     → store.Becomes (rx_area size) ram dir ram' dir' n fs → map told fs ≡ gs → Turns size ram dir ram' dir' n gs
 lift size ram dir ram' dir' n fs gs B e = record {
   holds = ap (λ (l : List store.Frame). map told l) B.holds ∙ e;
-  lies = B.sound;
+  packed = B.sound;
   ram_kept = B.ram_kept;
   dir_kept = B.dir_kept;
 }

@@ -1,5 +1,5 @@
 -- From what is known of the frames and of the memory to the step of the receive side. Assumes nothing.
-use mathlib.Core.Path.{◌≡◌, refl, sym, ap, ◌∙◌}
+use mathlib.Core.Path.{◌≡◌, refl, ap, ◌∙◌}
 use mathlib.Core.Logic.{inl}
 use mathlib.Core.Bool.{true}
 use mathlib.Core.List.{List, map}
@@ -10,7 +10,6 @@ use Rattle.store.specs.declared.Area.{Area}
 use Rattle.store.proofs.Lift.{apart-kept}
 use Rattle.receive_rules.specs.declared.Receive.{Receive}
 use Rattle.receive_rules.specs.Frame.{Frame, Rx}
-use Rattle.receive_rules.specs.Reading.{rx_free}
 use Rattle.receive_rules.specs.Sound.{sound}
 use Rattle.receive_rules.specs.View.{told, rx_area, rx_of, Packed, Sound, Turns, Step}
 use Rattle.receive_rules.proofs.Oldest.{none as empty}
@@ -22,12 +21,12 @@ same_kept i n l = record { below = refl; above = refl; long = refl }
 pub step_same : (size : ℕ) (r : Receive) (ram dir : List ℕ) (x : Rx) → Packed size r ram dir → rx_of size r ram dir ≡ x → Step size r ram dir ram dir x
 step_same size r ram dir x P e = record { shows = e; packed = P; ram_kept = same_kept 0 size ram; dir_kept = same_kept 0 768 dir }
 
--- the frames have turned to fs, the registers to those of r, and RX Free to what fs leave
+-- the frames have turned to fs, and the registers to those of r
 pub step-turns : (size : ℕ) (r : Receive) (ram dir ram' dir' : List ℕ) (fs : List Frame) (x : Rx) → Turns size ram dir ram' dir' r.frames fs
-    → r.free ≡ rx_free size fs → record { receiver = r.receiver; frames = fs } ≡ x → Step size r ram dir ram' dir' x
-step-turns size r ram dir ram' dir' fs x T n e = record {
+    → record { receiver = r.receiver; frames = fs } ≡ x → Step size r ram dir ram' dir' x
+step-turns size r ram dir ram' dir' fs x T e = record {
   shows = ap (λ (l : List Frame). record { receiver = r.receiver; frames = l }) T.holds ∙ e;
-  packed = record { lies = T.lies; counted = n ∙ ap (rx_free size) (sym T.holds) };
+  packed = T.packed;
   ram_kept = T.ram_kept;
   dir_kept = T.dir_kept;
 }
@@ -42,8 +41,8 @@ module _ (size m k : ℕ) (r : Receive) (ram dir ram' dir' : List ℕ) (R : stor
   both : Packed size r ram dir → Packed size r ram' dir' × (rx_of size r ram' dir' ≡ rx_of size r ram dir)
   both P =
       let other : Area = record { base = size; size = m; first = 768; slots = k } in
-      let e = apart-kept other (rx_area size) r.frames ram dir ram' dir' R D P.lies (inl (omega arith)) (inl (omega arith)) in
-      (record { lies = e.0; counted = P.counted ∙ ap (λ (l : List store.Frame). rx_free size (map told l)) (sym e.1) }, ap (λ (l : List store.Frame). record { receiver = r.receiver; frames = map told l }) e.1)
+      let e = apart-kept other (rx_area size) r.frames ram dir ram' dir' R D P (inl (omega arith)) (inl (omega arith)) in
+      (e.0, ap (λ (l : List store.Frame). record { receiver = r.receiver; frames = map told l }) e.1)
 
   pub apart-packed : Packed size r ram dir → Packed size r ram' dir'
   apart-packed P = (both P).0

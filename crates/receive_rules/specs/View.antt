@@ -1,10 +1,9 @@
 -- The receive side that registers and memory hold. `size` is the receiver's part of the RAM. Assumes nothing.
-use Rattle.std.specs.Prelude.{◌≡◌, List, [], ◌∷◌, map, Bool, true, cond, not, ◌&&◌, ℕ, ◌-◌, ◌%◌, ◌≤◌, leb, eqb}
+use Rattle.std.specs.Prelude.{◌≡◌, List, [], ◌∷◌, map, Bool, true, cond, not, ◌&&◌, ℕ, ◌-◌, ◌%◌, ◌≤◌, leb}
 use Rattle.store.specs.declared.Area.{Area}
 use Rattle.store.specs.Store as store
 use Rattle.receive_rules.specs.declared.Receive.{Receive}
 use Rattle.receive_rules.specs.Frame.{State, coming, whole, damaged, Frame, Rx}
-use Rattle.receive_rules.specs.Reading.{rx_free}
 use Rattle.receive_rules.specs.Sound.{sound, sized}
 
 -- Bits 15 to 11 of a directory word: bit 15 still coming, bit 14 error or, while coming, overrun; 13-11 the code.
@@ -24,14 +23,9 @@ frames_of size n ram dir = map told (store.view (rx_area size) n ram dir)
 abbrev pub rx_of : ℕ → Receive → List ℕ → List ℕ → Rx
 rx_of size r ram dir = record { receiver = r.receiver; frames = frames_of size r.frames ram dir }
 
--- n frames lie in their area, and the count `free` is what the sum over them leaves
-pub record Counted (size free n : ℕ) (ram dir : List ℕ) : Type 0 where
-  pub lies : store.Sound (rx_area size) n ram dir
-  pub counted : free ≡ rx_free size (frames_of size n ram dir)
-
--- the frames of the receive side, with RX Free as it stands
+-- the frames lie in their area
 abbrev pub Packed : ℕ → Receive → List ℕ → List ℕ → Type 0
-Packed size r ram dir = Counted size r.free r.frames ram dir
+Packed size r ram dir = store.Sound (rx_area size) r.frames ram dir
 
 -- the receive side is sound
 pub record Sound (size : ℕ) (r : Receive) (ram dir : List ℕ) : Type 0 where
@@ -42,7 +36,7 @@ pub record Sound (size : ℕ) (r : Receive) (ram dir : List ℕ) : Type 0 where
 -- the area holds the n frames fs, and nothing outside it has changed
 pub record Turns (size : ℕ) (ram dir ram' dir' : List ℕ) (n : ℕ) (fs : List Frame) : Type 0 where
   pub holds : frames_of size n ram' dir' ≡ fs
-  pub lies : store.Sound (rx_area size) n ram' dir'
+  pub packed : store.Sound (rx_area size) n ram' dir'
   pub ram_kept : store.Kept 0 size ram ram'
   pub dir_kept : store.Kept 0 768 dir dir'
 
@@ -53,12 +47,11 @@ pub record Step (size : ℕ) (r : Receive) (ram dir ram' dir' : List ℕ) (x : R
   pub ram_kept : store.Kept 0 size ram ram'
   pub dir_kept : store.Kept 0 768 dir dir'
 
--- The test that a call makes of what it is handed: the frames lie in their area, RX Free is counted, and the receive side is sound.
+-- The test that a call makes of what it is handed: the frames lie in their area, and the receive side is sound.
 unfoldable pub sound_side : ℕ → Receive → List ℕ → List ℕ → Bool
 sound_side size r ram dir =
     leb r.frames 768
     && leb (store.room_of (store.words (rx_area size) r.frames dir)) size
-    && eqb r.free (rx_free size (frames_of size r.frames ram dir))
     && sound size (rx_of size r ram dir)
 
 -- the same of the words of a directory

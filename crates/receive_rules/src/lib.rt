@@ -14,11 +14,10 @@ pub struct Receiver {
     pub wire: u8,
 }
 
-// The registers, RX Free, and how many frames are stored.
+// The registers, and how many frames are stored.
 #[repr(C)]
 #[derive(Drop)]
 pub struct Receive {
     pub receiver: Receiver,
-    pub free: u16,
     pub frames: usize,
 }

@@ -1,5 +1,5 @@
 // The card by value: its registers in groups, the Status word, the interrupt line, RX Status and the unread bytes, settle, power-on, and the test of its soundness.
-ghost use Rattle.std.specs.Prelude.{◌≡◌, true, false, List, ℕ, ◌%◌, ◌≤◌, ◌<◌, length};
+ghost use Rattle.std.specs.Prelude.{◌≡◌, true, List, ℕ, ◌%◌, ◌≤◌, ◌<◌, length};
 ghost use Rattle.bits.specs.Bits.{weigh};
 ghost use Rattle.card_rules.specs.Room.{tx_size, rx_size};
 ghost use Rattle.receive_rules.specs.View as rx;
@@ -141,10 +141,9 @@ fn loaded(words: [u16; 64]) -> Config
     }
 }
 
-// The receive side at power-on and after RX Reset: off and empty, with `size` bytes free. `wire` is what the wire is doing.
-pub fn quiet(size: usize, wire: u8) -> Receive
-    requires { size ≤ 6144 }
-    ensures { result ≡ record { receiver = (rx_empty wire).receiver; free = size; frames = 0 } }
+// The receive side at power-on and after RX Reset: off and empty. `wire` is what the wire is doing.
+pub fn quiet(wire: u8) -> Receive
+    ensures { result ≡ record { receiver = (rx_empty wire).receiver; frames = 0 } }
 {
     Receive {
         receiver: Receiver {
@@ -156,21 +155,7 @@ pub fn quiet(size: usize, wire: u8) -> Receive
             read: 0,
             wire: wire,
         },
-        free: size as u16,
         frames: 0,
-    }
-}
-
-// The transmit FIFO at power-on and after TX Reset: empty, with `size` bytes free.
-pub fn drained(size: usize) -> Fifo
-    requires { size ≤ 4096 }
-    ensures { result ≡ record { failed = false; free = size; packets = 0; words = 0 } }
-{
-    Fifo {
-        failed: false,
-        free: size as u16,
-        packets: 0,
-        words: 0,
     }
 }
 
@@ -181,8 +166,7 @@ pub fn power_on(words: [u16; 64], wire: u8) -> Card
     let id = idport::fresh(words);
     let outcomes = outcomes::fresh();
     let config = loaded(words);
-    let receive = quiet(rx_size(config.second), wire);
-    let fifo = drained(tx_size(config.second));
+    let receive = quiet(wire);
     Card {
         id: id,
         select: Select {
@@ -203,7 +187,11 @@ pub fn power_on(words: [u16; 64], wire: u8) -> Card
         },
         receive: receive,
         transmit: Transmit {
-            fifo: fifo,
+            fifo: Fifo {
+                failed: false,
+                packets: 0,
+                words: 0,
+            },
             outcomes: outcomes,
         },
     }

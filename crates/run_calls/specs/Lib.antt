@@ -1,4 +1,3 @@
--- What the promise that the calls take the steps cites, the one test of soundness, and that each count is the sum.
+-- What the promise that the calls take the steps cites, and the one test of soundness.
 pub mod Takes
 pub mod OneTest
-pub mod Counts

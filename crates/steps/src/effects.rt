@@ -106,15 +106,6 @@ pub fn wire_start(ram: &mut [u8], dir: &mut [u16], c: Card, first: [u8; 8]) -> C
     with_receive(c, receive)
 }
 
-// The frame has a byte more.
-pub fn wire_byte(ram: &mut [u8], dir: &mut [u16], c: Card, b: u8) -> Card
-    requires { Sound c ram.old dir.old }
-    ensures { Is result ram.new dir.new (with_rx (wire.wire_byte (rx_size_of c) b (view c ram.old dir.old).rx) (view c ram.old dir.old)) }
-{
-    let receive = receive::wire_byte(ram, dir, regs::rx_size(c.config.second), c.receive, b);
-    with_receive(c, receive)
-}
-
 // The frame ends.
 pub fn wire_end(ram: &mut [u8], dir: &mut [u16], c: Card, check: bool, alignment: bool) -> Card
     requires { Sound c ram.old dir.old }

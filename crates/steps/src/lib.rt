@@ -104,8 +104,8 @@ pub fn wire_byte(ram: &mut [u8], dir: &mut [u16], c: Card, b: u8) -> Card
     requires { Sound c ram.old dir.old }
     ensures { Stands result ram.new dir.new (wire_byte b (view c ram.old dir.old)) }
 {
-    let brought = effects::wire_byte(ram, dir, c, b);
-    regs::settle(ram, dir, brought)
+    receive::wire_byte(ram, dir, regs::rx_size(c.config.second), c.receive, b);
+    regs::settle(ram, dir, c)
 }
 
 // The wire ends the frame, with its two flags.

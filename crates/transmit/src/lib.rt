@@ -1,7 +1,8 @@
 // The transmit side of the card: the FIFO and the send outcomes together.
 ghost use Rattle.std.specs.Prelude.{◌≡◌, ◌≤◌, ◌<◌, length};
+ghost use Rattle.transmit_rules.specs.Queue.{free};
 ghost use Rattle.transmit_rules.specs.Leave.{told_of};
-ghost use Rattle.transmit_rules.specs.QueueView.{Tells};
+ghost use Rattle.transmit_rules.specs.QueueView.{queue_of, Tells};
 ghost use Rattle.transmit_rules.specs.Outcome as outcome;
 ghost use Rattle.transmit_rules.specs.OutcomesView.{Stacked};
 ghost use Rattle.transmit_rules.specs.Tx.{on_reports, write_data, ready, success as success_of, collisions as collisions_of, settle as settle_of};
@@ -26,9 +27,18 @@ pub fn tx_sound(ram: &[u8], dir: &[u16], size: usize, t: Transmit) -> bool
     if !packed {
         return false;
     }
+    let free = queue::fifo_free(ram, dir, size, t.fifo);
     let filled = outcomes::outcomes_sound(t.outcomes);
-    let settled = outcomes::is_settled(t.outcomes, t.fifo.free);
+    let settled = outcomes::is_settled(t.outcomes, free);
     filled & settled
+}
+
+// TX Free.
+pub fn tx_free(ram: &[u8], dir: &[u16], size: usize, t: Transmit) -> usize
+    requires { Sound size t ram.now dir.now }
+    ensures { result ≡ free size (queue_of size t.fifo ram.now dir.now) }
+{
+    queue::fifo_free(ram, dir, size, t.fifo)
 }
 
 // The host writes a word.
@@ -89,7 +99,14 @@ pub fn settle(ram: &[u8], dir: &[u16], size: usize, t: Transmit) -> Transmit
     requires { Unsettled size t ram.now dir.now }
     ensures { Step size result ram.now dir.now ram.now dir.now (settle_of size (tx_of size t ram.now dir.now)) }
 {
-    let o = outcomes::settle_available(t.outcomes, t.fifo.free);
+    // TX Free is summed only where the answer hangs on it.
+    let s = t.outcomes.sender;
+    let known = (1792 < s.level) | s.available;
+    if known {
+        return t;
+    }
+    let free = queue::fifo_free(ram, dir, size, t.fifo);
+    let o = outcomes::settle_available(t.outcomes, free);
     let mut next = t;
     next.outcomes = o;
     next

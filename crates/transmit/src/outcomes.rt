@@ -164,12 +164,12 @@ pub fn acknowledge(o: Outcomes, named: bool) -> Outcomes
 }
 
 // TX Available, when `free` is TX Free.
-pub fn settle_available(o: Outcomes, free: u16) -> Outcomes
+pub fn settle_available(o: Outcomes, free: usize) -> Outcomes
     requires { Stacked o }
     ensures { Reported result (outcome.settle_available free (reports_of o)) }
 {
     let s = o.sender;
-    let level = s.level;
+    let level = s.level as usize;
     let available = ((level <= 1792) & (level < free)) | s.available;
     let mut next = o;
     next.sender.available = available;
@@ -177,10 +177,10 @@ pub fn settle_available(o: Outcomes, free: u16) -> Outcomes
 }
 
 // TX Available stands if it is due, when `free` is TX Free.
-pub fn is_settled(o: Outcomes, free: u16) -> bool
+pub fn is_settled(o: Outcomes, free: usize) -> bool
     ensures { result ≡ outcome.available_settled free o.sender }
 {
     let s = o.sender;
-    let level = s.level;
+    let level = s.level as usize;
     s.available | !((level <= 1792) & (level < free))
 }

@@ -11,7 +11,7 @@ use Rattle.store.specs.Store.{Frame, frames, room_of, part, Kept}
 use Rattle.store.proofs.Laws.{kept-part}
 use Rattle.store.proofs.Lift.{apart-kept}
 use Rattle.transmit_rules.specs.declared.Fifo.{Fifo}
-use Rattle.transmit_rules.specs.Queue.{Part, no_part, Queue, room, free}
+use Rattle.transmit_rules.specs.Queue.{Part, no_part}
 use Rattle.transmit_rules.specs.QueueView.{tx_area, part_of, queue_of, Packed}
 
 -- below the area
@@ -38,9 +38,8 @@ module _ (size : ℕ) (f : Fifo) (ram dir ram' dir' : List ℕ) (kr : Kept 0 (81
   module _ (P : Packed size f ram dir) where
     both-kept : Packed size f ram' dir' × (queue_of size f ram' dir' ≡ queue_of size f ram dir)
     both-kept =
-        let A = apart-kept (below size) (tx_area size) f.packets ram dir ram' dir' kr kd P.lies (inr (omega arith)) (inr (omega arith)) in
-        let e : queue_of size f ram' dir' ≡ queue_of size f ram dir = ap₂ (λ (ps : List Frame) (p : Part). record { failed = f.failed; packets = ps; part = p }) A.1 (same-part f.words) in
-        (record { lies = A.0; counted = P.counted ∙ ap (λ (q : Queue). free size q) (sym e) }, e)
+        let A = apart-kept (below size) (tx_area size) f.packets ram dir ram' dir' kr kd P (inr (omega arith)) (inr (omega arith)) in
+        (A.0, ap₂ (λ (ps : List Frame) (p : Part). record { failed = f.failed; packets = ps; part = p }) A.1 (same-part f.words))
 
     pub packed-kept : Packed size f ram' dir'
     packed-kept = both-kept.0
@@ -50,16 +49,11 @@ module _ (size : ℕ) (f : Fifo) (ram dir ram' dir' : List ℕ) (kr : Kept 0 (81
 
 -- ---- the same FIFO in another size, while nothing is written
 
+-- nothing is written: the counts are 0
+pub idle-packed : (size : ℕ) (f : Fifo) (ram dir : List ℕ) → f.packets ≡ 0 → size ≤ 4096 → 8192 ≤ length ram → 1110 ≤ length dir → Packed size f ram dir
+unfolding room_of
+idle-packed size f ram dir e s hr hd = record { in_ram = omega arith; in_dir = omega arith; few = omega arith; small = omega arith; room = rw e (omega arith) }
+
 pub idle-queue : (size : ℕ) (f : Fifo) (ram dir : List ℕ) → f.packets ≡ 0 → f.words ≡ 0 → queue_of size f ram dir ≡ record { failed = f.failed; packets = []; part = no_part }
 unfolding frames part_of
 idle-queue size f ram dir e d = rw (e, d)
-
--- nothing is written: no packet and no word is counted, and all `size` bytes are free
-pub idle-packed : (size : ℕ) (f : Fifo) (ram dir : List ℕ) → f.packets ≡ 0 → f.words ≡ 0 → f.free ≡ size → size ≤ 4096 → 8192 ≤ length ram → 1110 ≤ length dir → Packed size f ram dir
-unfolding room_of free room
-idle-packed size f ram dir e d n s hr hd =
-    let z : size ≡ free size (record { failed = f.failed; packets = []; part = no_part }) = omega arith in
-    record {
-      lies = record { in_ram = omega arith; in_dir = omega arith; few = omega arith; small = omega arith; room = rw e (omega arith) };
-      counted = n ∙ z ∙ sym (ap (λ (q : Queue). free size q) (idle-queue size f ram dir e d));
-    }

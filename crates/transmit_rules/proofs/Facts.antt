@@ -73,7 +73,7 @@ module _ (size : ℕ) (f : Fifo) (ram dir : List ℕ) (H : Holds size f ram dir)
   pub facts : Facts size f.packets f.words dir
   facts =
       let n : ℕ = f.packets in
-      let S = H.packed.lies in
+      let S = H.packed in
       let few : n ≤ 342 = S.few in
       let dirs : 768 + 342 ≤ length dir = S.in_dir in
       let e : length (part 768 n dir) ≡ n = part_length dir 768 n (omega arith) in
@@ -83,10 +83,6 @@ module _ (size : ℕ) (f : Fifo) (ram dir : List ℕ) (H : Holds size f ram dir)
       let l : 8 * n ≤ room_of (part 768 n dir) = rw e at (least (part 768 n dir) (part (8192 - size) size ram) (omega arith) halves.1) in
       let small : size ≤ 4096 = H.small in
       record { space = space; place = omega arith; few = omega arith }
-
-  -- what the packets and the words of the one being written take, and TX Free, are all `size` bytes
-  pub shares : room_of (part 768 f.packets dir) + 4 * f.packets + 2 * f.words + f.free ≡ size
-  shares = omega (arith, facts.space, H.packed.counted, free_of size f ram dir H.packed.lies)
 
   pub sizes : all_sized (packets_of size f.packets ram dir) ≡ true
   sizes = halves.1

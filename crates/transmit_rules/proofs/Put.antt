@@ -8,12 +8,11 @@ use native.Mathlib.Omega.{arith}
 use borrow.Author.Tests.{lt-ltb, le-ltb, eq-eqb, ne_eqb}
 use lib.ListN.{length, take, drop, get_or, set, length-set, length-append}
 use lib.Seq.{take-take, get_or-set_same}
-use Rattle.store.specs.Store as store
 use Rattle.store.specs.Store.{begun, len_of, round4, room_of, part, Kept}
 use Rattle.store.proofs.Laws.{room-append, room-one, part_snoc, frames_snoc, kept_set}
 use Rattle.transmit_rules.specs.Queue.{no_part, Queue, room, free}
 use Rattle.transmit_rules.specs.Write.{sized, fails, with_part, opened, second, written, completed, put}
-use Rattle.transmit_rules.specs.QueueView.{tx_area, packets_of, part_of, queue_of, Packed, Holds, Turns}
+use Rattle.transmit_rules.specs.QueueView.{packets_of, part_of, queue_of, Packed, Holds, Turns}
 use Rattle.transmit_rules.specs.declared.Fifo.{Fifo}
 use Rattle.transmit_rules.proofs.Parts.{part_length, part-part, part-behind, part-two, frames-same}
 use Rattle.transmit_rules.proofs.Facts.{facts, grows, words_of, part_of_lem, free_of}
@@ -49,56 +48,37 @@ module _ (size v : ℕ) (q : Queue) where
 pub same_kept : (i n : ℕ) (l : List ℕ) → Kept i n l l
 same_kept i n l = record { below = refl; above = refl; long = refl }
 
--- the packets lie in their area, and TX Free is what their words leave
-pub packed_as : (size : ℕ) (f : Fifo) (ram dir : List ℕ) → store.Sound (tx_area size) f.packets ram dir
-    → f.free ≡ size - (room_of (part 768 f.packets dir) + 4 * f.packets + 2 * f.words) → Packed size f ram dir
-packed_as size f ram dir S e = record { lies = S; counted = e ∙ sym (free_of size f ram dir S) }
-
--- a word takes two bytes of what is free
-two-less : (size left was now : ℕ) → left ≡ size - was → now ≡ was + 2 → left - 2 ≡ size - now
-two-less size left was now e d = omega arith
-
 -- the memory is as it was
 pub turns_same : (size : ℕ) (f : Fifo) (ram dir : List ℕ) (q : Queue) → Packed size f ram dir → queue_of size f ram dir ≡ q → Turns size f ram dir ram dir q
 turns_same size f ram dir q P e = record { holds = e; packed = P; ram_kept = same_kept (8192 - size) size ram; dir_kept = same_kept 768 342 dir }
-
--- a transmit failure: all that is written stays, and so does TX Free
-pub turns-fails : (size v : ℕ) (f : Fifo) (ram dir : List ℕ) → Packed size f ram dir → put size v (queue_of size f ram dir) ≡ fails (queue_of size f ram dir)
-    → Turns size (record { failed = true; free = f.free; packets = f.packets; words = f.words }) ram dir ram dir (put size v (queue_of size f ram dir))
-unfolding free
-turns-fails size v f ram dir P e =
-    turns_same size (record { failed = true; free = f.free; packets = f.packets; words = f.words }) ram dir _ (record { lies = P.lies; counted = P.counted }) (sym e)
 
 -- ---- the words of the preamble
 
 module _ (size v : ℕ) (f : Fifo) (ram dir : List ℕ) (H : Holds size f ram dir) (ok : f.failed ≡ false) where
   pub opens : 2 ≤ free size (queue_of size f ram dir) → f.words ≡ 0 → sized (len_of v) ≡ true
-      → Turns size (record { failed = false; free = f.free - 2; packets = f.packets; words = 1 }) ram dir ram (set dir (768 + f.packets) v) (put size v (queue_of size f ram dir))
+      → Turns size (record { failed = false; packets = f.packets; words = 1 }) ram dir ram (set dir (768 + f.packets) v) (put size v (queue_of size f ram dir))
   unfolding part_of
   opens room z s =
       let F = facts size f ram dir H in
-      let S = H.packed.lies in
+      let S = H.packed in
       let e : part 768 f.packets (set dir (768 + f.packets) v) ≡ part 768 f.packets dir = part-behind dir 768 f.packets (768 + f.packets) v (omega arith) in
       let dirs : 768 + 342 ≤ length dir = S.in_dir in
       let g : get_or (set dir (768 + f.packets) v) (768 + f.packets) 0 ≡ v = get_or-set_same dir (768 + f.packets) v 0 (omega (arith, F.place)) in
       let q : Queue = queue_of size f ram dir in
       record {
         holds = rw (put-opens size v q ok room (words_of size f.packets f.words ram dir ∙ z) s, e, g, ok);
-        packed = packed_as size (record { failed = false; free = f.free - 2; packets = f.packets; words = 1 }) ram (set dir (768 + f.packets) v)
-            (record { in_ram = S.in_ram; in_dir = rw length-set S.in_dir; few = S.few; small = S.small; room = rw e S.room })
-            (rw e (two-less size f.free _ _ (H.packed.counted ∙ free_of size f ram dir S) (omega arith)));
+        packed = record { in_ram = S.in_ram; in_dir = rw length-set S.in_dir; few = S.few; small = S.small; room = rw e S.room };
         ram_kept = same_kept (8192 - size) size ram;
         dir_kept = kept_set dir 768 342 (768 + f.packets) v (omega arith) (omega (arith, F.place));
       }
 
   pub seconds : 2 ≤ free size (queue_of size f ram dir) → f.words ≡ 1
-      → Turns size (record { failed = false; free = f.free - 2; packets = f.packets; words = 2 }) ram dir ram dir (put size v (queue_of size f ram dir))
+      → Turns size (record { failed = false; packets = f.packets; words = 2 }) ram dir ram dir (put size v (queue_of size f ram dir))
   unfolding part_of
   seconds room z =
       let q : Queue = queue_of size f ram dir in
       let p = put_second size v q ok room (words_of size f.packets f.words ram dir ∙ z) in
-      let g : Fifo = record { failed = false; free = f.free - 2; packets = f.packets; words = 2 } in
-      turns_same size g ram dir _ (packed_as size g ram dir H.packed.lies (two-less size f.free _ _ (H.packed.counted ∙ free_of size f ram dir H.packed.lies) (omega arith))) (rw (p, ok, z))
+      turns_same size (record { failed = false; packets = f.packets; words = 2 }) ram dir _ H.packed (rw (p, ok, z))
 
 -- ---- a word of data
 
@@ -123,8 +103,8 @@ module _ (size v at : ℕ) (f : Fifo) (ram dir : List ℕ) (H : Holds size f ram
   pub room-left : Room
   room-left =
       let F = facts size f ram dir H in
-      let sum : room_of (part 768 f.packets dir) + 4 * f.packets + 2 * f.words + 2 ≤ size = omega (arith, free_of size f ram dir H.packed.lies, F.space) in
-      record { sum = sum; low = omega arith; high = omega arith; in_ram = H.packed.lies.in_ram }
+      let sum : room_of (part 768 f.packets dir) + 4 * f.packets + 2 * f.words + 2 ≤ size = omega (arith, free_of size f ram dir H.packed, F.space) in
+      record { sum = sum; low = omega arith; high = omega arith; in_ram = H.packed.in_ram }
 
   after : List ℕ
   after = set (set ram at (v % 256)) (at + 1) (v / 256)
@@ -174,14 +154,14 @@ module _ (size v at : ℕ) (f : Fifo) (ram dir : List ℕ) (H : Holds size f ram
   told = rw (part_of_lem size f.packets f.words ram dir (omega arith))
 
   pub data_whole : 2 * f.words ≡ round4 (len_of (get_or dir (768 + f.packets) 0)) + 2
-      → Turns size (record { failed = f.failed; free = f.free - 2; packets = f.packets + 1; words = 0 }) ram dir (set (set ram at (v % 256)) (at + 1) (v / 256)) dir
+      → Turns size (record { failed = f.failed; packets = f.packets + 1; words = 0 }) ram dir (set (set ram at (v % 256)) (at + 1) (v / 256)) dir
       (completed (with_part (written v (queue_of size f ram dir).part) (queue_of size f ram dir)))
   unfolding after w q part_of
   data_whole e =
       let F = facts size f ram dir H in
       let G = grows size f ram dir H (omega arith) in
       let R = room-left in
-      let S = H.packed.lies in
+      let S = H.packed in
       let dirs : 768 + 342 ≤ length dir = S.in_dir in
       let ws : List ℕ = part 768 f.packets dir in
       let one : f.packets + 1 ≡ suc f.packets = add-one f.packets in
@@ -195,31 +175,27 @@ module _ (size v at : ℕ) (f : Fifo) (ram dir : List ℕ) (H : Holds size f ram
       ∙ ap (λ (l : List ℕ). take (len_of w) l) new_bytes in
       record {
         holds = rw (told, completes q (new_length ∙ omega arith), snoc, frames_snoc ws w m, own, same-packets);
-        packed = packed_as size (record { failed = f.failed; free = f.free - 2; packets = f.packets + 1; words = 0 }) after dir
-            (record {
-              in_ram = rw (length-set, length-set) S.in_ram;
-              in_dir = S.in_dir;
-              few = omega (arith, F.place);
-              small = S.small;
-              room = rw (snoc, room-append, room-one) (omega (arith, R.sum));
-            })
-            (rw (snoc, room-append, room-one) (two-less size f.free _ _ (H.packed.counted ∙ free_of size f ram dir S) (omega arith)));
+        packed = record {
+          in_ram = rw (length-set, length-set) S.in_ram;
+          in_dir = S.in_dir;
+          few = omega (arith, F.place);
+          small = S.small;
+          room = rw (snoc, room-append, room-one) (omega (arith, R.sum));
+        };
         ram_kept = kept-ram;
         dir_kept = same_kept 768 342 dir;
       }
 
   pub data_more : (2 * f.words ≡ round4 (len_of (get_or dir (768 + f.packets) 0)) + 2 → ⊥)
-      → Turns size (record { failed = f.failed; free = f.free - 2; packets = f.packets; words = f.words + 1 }) ram dir (set (set ram at (v % 256)) (at + 1) (v / 256)) dir
+      → Turns size (record { failed = f.failed; packets = f.packets; words = f.words + 1 }) ram dir (set (set ram at (v % 256)) (at + 1) (v / 256)) dir
       (completed (with_part (written v (queue_of size f ram dir).part) (queue_of size f ram dir)))
   unfolding after q
   data_more e =
-      let S = H.packed.lies in
+      let S = H.packed in
       let j : 2 * (f.words + 1 - 2) ≡ 2 * (f.words - 2) + 2 = omega arith in
       record {
         holds = rw (told, goes_on_lem q (λ z. e (omega (arith, new_length, z))), part_of_lem size f.packets (f.words + 1) after dir (omega arith), j, new_bytes, same-packets);
-        packed = packed_as size (record { failed = f.failed; free = f.free - 2; packets = f.packets; words = f.words + 1 }) after dir
-            (record { in_ram = rw (length-set, length-set) S.in_ram; in_dir = S.in_dir; few = S.few; small = S.small; room = S.room })
-            (two-less size f.free _ _ (H.packed.counted ∙ free_of size f ram dir S) (omega arith));
+        packed = record { in_ram = rw (length-set, length-set) S.in_ram; in_dir = S.in_dir; few = S.few; small = S.small; room = S.room };
         ram_kept = kept-ram;
         dir_kept = same_kept 768 342 dir;
       }

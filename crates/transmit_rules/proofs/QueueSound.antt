@@ -5,21 +5,20 @@ use mathlib.Core.List.{List, [], ◌∷◌, ◌++◌}
 use Prim.Native.Nat.{ℕ, zero, suc, ◌+◌, ◌*◌, ◌-◌, ◌%◌, ◌≤◌, ◌<◌}
 use native.Mathlib.Numerals.{add-one}
 use native.Mathlib.Omega.{arith}
-use borrow.Author.Tests.{leb-true, eqb-true, le-leb, eq-eqb}
+use borrow.Author.Tests.{leb-true, le-leb, lt-leb, eq-eqb}
 use lib.Dec.{leb, ltb, eqb}
 use lib.ListN.{length, drop, get_or, length-drop}
 use lib.Seq.{length-take-le}
-use Rattle.store.specs.Store as store
 use Rattle.store.specs.Store.{frames, len_of, round4, room_of, part}
 use Rattle.store.proofs.Laws.{part_snoc}
-use Rattle.transmit_rules.specs.Queue.{room, free}
+use Rattle.transmit_rules.specs.Queue.{room}
 use Rattle.transmit_rules.specs.Write.{sized}
 use Rattle.transmit_rules.specs.QueueSound.{all_sized, growing, orderly}
-use Rattle.transmit_rules.specs.QueueView.{tx_area, packets_of, part_of, queue_of, Holds, good_words, sound_fifo}
+use Rattle.transmit_rules.specs.QueueView.{packets_of, part_of, queue_of, Packed, Holds, good_words, sound_fifo}
 use Rattle.transmit_rules.specs.declared.Fifo.{Fifo}
 use Rattle.bits.proofs.Tests.{by_test, both}
 use Rattle.transmit_rules.proofs.Parts.{part_length}
-use Rattle.transmit_rules.proofs.Facts.{words_of, room_of_lem, free_of, facts}
+use Rattle.transmit_rules.proofs.Facts.{words_of, room_of_lem, facts}
 
 good_snoc : (ws : List ℕ) (w : ℕ) → good_words (ws ++ (w ∷ [])) ≡ (good_words ws && sized (w % 2048))
 unfolding good_words
@@ -46,17 +45,29 @@ growing_of size n zero ram dir h = refl
 growing_of size n (suc k) ram dir h =
     rw (eq-eqb (length (part (8192 - size + room_of (part 768 n dir)) (2 * (suc k - 2)) ram)) (2 * (suc k - 2)) (part_length ram (8192 - size + room_of (part 768 n dir)) (2 * (suc k - 2)) h))
 
--- where all that is written fits, the tests on the words of the directory say that the FIFO is orderly
-orderly-same : (size : ℕ) (f : Fifo) (ram dir : List ℕ) → store.Sound (tx_area size) f.packets ram dir → room_of (part 768 f.packets dir) + 4 * f.packets + 2 * f.words ≤ size
-    → (good_words (part 768 f.packets dir)
+-- the tests on the words of the directory say that the FIFO is orderly
+pub orderly-same : (size used : ℕ) (f : Fifo) (ram dir : List ℕ) → Packed size f ram dir → used ≡ room_of (part 768 f.packets dir)
+    → (leb (used + 4 * f.packets + 2 * f.words) size && good_words (part 768 f.packets dir)
     && (eqb f.words 0 || sized (len_of (get_or dir (768 + f.packets) 0)) && ltb (2 * f.words) (4 + round4 (len_of (get_or dir (768 + f.packets) 0)))))
     ≡ orderly size (queue_of size f ram dir)
-orderly-same size f ram dir S fits =
+orderly-same size used f ram dir S u =
     let n : ℕ = f.packets in
     let k : ℕ = f.words in
     let l : length (part (8192 - size) size ram) ≡ size = part_length ram (8192 - size) size S.in_ram in
     let g : all_sized (packets_of size n ram dir) ≡ good_words (part 768 n dir) = good-frames (part 768 n dir) (part (8192 - size) size ram) (omega (arith, S.room)) in
-    rw (growing_of size n k ram dir (omega (arith, S.in_ram)), words_of size n k ram dir, room_of_lem size n ram dir S, g, le-leb (room_of (part 768 n dir) + 4 * n + 2 * k) size fits)
+    let r : room (packets_of size n ram dir) ≡ used + 4 * n = room_of_lem size n ram dir S ∙ omega arith in
+    by_test (leb (used + 4 * n + 2 * k) size)
+    (λ y.
+    let sp : used + 4 * n + 2 * k ≤ size = leb-true (used + 4 * n + 2 * k) size y in
+    rw (growing_of size n k ram dir (omega (arith, S.in_ram)), words_of size n k ram dir, r, g))
+    (λ m. rw (words_of size n k ram dir, r, g, m))
+
+-- too many words: there is no room for them
+pub words-many : (size : ℕ) (f : Fifo) (ram dir : List ℕ) → size ≤ 4096 → 2048 < f.words → orderly size (queue_of size f ram dir) ≡ false
+words-many size f ram dir s h =
+    let n : ℕ = f.packets in
+    let k : ℕ = f.words in
+    rw (words_of size n k ram dir, lt-leb (room (packets_of size n ram dir) + 2 * k) size (omega arith))
 
 -- ---- the test, as facts, both ways
 
@@ -65,21 +76,16 @@ unfolding sound_fifo
 sound-holds size f ram dir small hr hd h =
     let a : Bool = leb f.packets 341 in
     let b : Bool = leb (room_of (part 768 f.packets dir)) size in
-    let left : ℕ = free size (queue_of size f ram dir) in
-    let p = both (a && b && eqb f.free left) (orderly size (queue_of size f ram dir)) h in
-    let n = both (a && b) (eqb f.free left) p.0 in
-    let q = both a b n.0 in
+    let p = both (a && b) (orderly size (queue_of size f ram dir)) h in
+    let q = both a b p.0 in
     record {
       small = small;
       packed = record {
-        lies = record {
-          in_ram = omega arith;
-          in_dir = omega arith;
-          few = omega (arith, leb-true f.packets 341 q.0);
-          small = omega arith;
-          room = leb-true (room_of (part 768 f.packets dir)) size q.1;
-        };
-        counted = eqb-true f.free left n.1;
+        in_ram = omega arith;
+        in_dir = omega arith;
+        few = omega (arith, leb-true f.packets 341 q.0);
+        small = omega arith;
+        room = leb-true (room_of (part 768 f.packets dir)) size q.1;
       };
       calm = p.1;
     }
@@ -89,23 +95,4 @@ unfolding sound_fifo
 holds-sound size f ram dir H =
     let F = facts size f ram dir H in
     let few : f.packets ≤ 341 = omega (arith, F.place) in
-    rw (H.calm, le-leb f.packets 341 few, le-leb (room_of (part 768 f.packets dir)) size H.packed.lies.room, eq-eqb f.free (free size (queue_of size f ram dir)) H.packed.counted)
-
--- ---- the test, on the words of the directory
-
--- a FIFO that cannot be sound is not
-pub unsound : (size : ℕ) (f : Fifo) (ram dir : List ℕ) → size ≤ 4096 → 8192 ≤ length ram → 1110 ≤ length dir → (Holds size f ram dir → ⊥) → sound_fifo size f ram dir ≡ false
-unsound size f ram dir small hr hd off = by_test (sound_fifo size f ram dir) (λ y. absurd (off (sound-holds size f ram dir small hr hd y))) (λ m. m)
-
--- where what is taken and TX Free are all `size` bytes, the lengths decide
-pub shared_sound : (size : ℕ) (f : Fifo) (ram dir : List ℕ) → size ≤ 4096 → 8192 ≤ length ram → 1110 ≤ length dir → f.packets ≤ 341
-    → room_of (part 768 f.packets dir) + 4 * f.packets + 2 * f.words + f.free ≡ size
-    → (good_words (part 768 f.packets dir)
-    && (eqb f.words 0 || sized (len_of (get_or dir (768 + f.packets) 0)) && ltb (2 * f.words) (4 + round4 (len_of (get_or dir (768 + f.packets) 0)))))
-    ≡ sound_fifo size f ram dir
-unfolding sound_fifo
-shared_sound size f ram dir small hr hd few e =
-    let S : store.Sound (tx_area size) f.packets ram dir = record { in_ram = omega arith; in_dir = omega arith; few = omega arith; small = omega arith; room = omega arith } in
-    let counted : f.free ≡ free size (queue_of size f ram dir) = omega (arith, free_of size f ram dir S) in
-    rw (le-leb f.packets 341 few, le-leb (room_of (part 768 f.packets dir)) size S.room, eq-eqb f.free (free size (queue_of size f ram dir)) counted)
-    (orderly-same size f ram dir S (omega arith))
+    rw (H.calm, le-leb f.packets 341 few, le-leb (room_of (part 768 f.packets dir)) size H.packed.room)

@@ -37,9 +37,9 @@ step-reports size t o ram dir r P R = step-turns size t.fifo o ram dir ram dir (
 pub report_as : (o : Outcomes) (g : Bool → Reports) (b d : Bool) → b ≡ d → Reported o (g b) → Reported o (g d)
 report_as o g b d e R = record { tells = R.tells ∙ ap g e; stacked = R.stacked }
 
--- the FIFO is emptied where it lies, and all `size` bytes are free
-abbrev pub emptied : ℕ → Fifo
-emptied size = record { failed = false; free = size; packets = 0; words = 0 }
+-- the FIFO is emptied where it lies
+abbrev pub emptied : Fifo
+emptied = record { failed = false; packets = 0; words = 0 }
 
 -- a whole packet is stored where the count is not 0
 pub any_of : (size n : ℕ) (ram dir : List ℕ) → store.Sound (tx_area size) n ram dir → any (packets_of size n ram dir) ≡ ltb 0 n
@@ -55,4 +55,4 @@ pub ready-some : (size : ℕ) (t : Transmit) (ram dir : List ℕ) → Packed siz
 ready-some size t ram dir P h =
     let n : ℕ = t.fifo.packets in
     let p = both (t.outcomes.sender.on && not t.fifo.failed) (any (packets_of size n ram dir)) h in
-    ltb-true 0 n (sym (any_of size n ram dir P.lies) ∙ p.1)
+    ltb-true 0 n (sym (any_of size n ram dir P) ∙ p.1)

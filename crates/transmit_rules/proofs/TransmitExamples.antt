@@ -52,12 +52,12 @@ settled : (settle 3072 (on_reports (set_level 1000) tx_empty)).reports.sender.av
 unfolding due free room
 settled = refl
 
--- an empty FIFO with that threshold and this TX Free (no memory is read)
-handed : Bool → ℕ → Bool
-handed stands free =
+-- an empty FIFO with that threshold is sound only while TX Available stands (no memory is read)
+handed : Bool → Bool
+handed stands =
     sound_side 3072
     (record {
-      fifo = record { failed = false; free = free; packets = 0; words = 0 };
+      fifo = record { failed = false; packets = 0; words = 0 };
       outcomes =
           record {
             sender = record { on = false; available = stands; level = 1000; start = 2044 };
@@ -66,16 +66,10 @@ handed stands free =
     })
     [] []
 
--- it is sound only while TX Available stands
-settled_sound : handed true 3072 ≡ true
+settled_sound : handed true ≡ true
 unfolding handed sound_side sound_fifo frames room_of part_of room free all_sized sound_outcomes due
 settled_sound = refl
 
-unsettled : handed false 3072 ≡ false
+unsettled : handed false ≡ false
 unfolding handed sound_side sound_fifo frames room_of part_of room free all_sized sound_outcomes due
 unsettled = refl
-
--- .. and only with all bytes free
-count_wrong : (handed true 3070 ≡ false) × (handed true 3073 ≡ false) × (handed true 0 ≡ false)
-unfolding handed sound_side sound_fifo frames room_of part_of room free all_sized sound_outcomes due
-count_wrong = (refl, refl, refl)

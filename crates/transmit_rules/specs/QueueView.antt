@@ -1,10 +1,10 @@
 -- The transmit FIFO that counts and memory hold. `size` is the transmitter's part of the RAM. Assumes nothing.
-use Rattle.std.specs.Prelude.{◌≡◌, List, [], ◌∷◌, ◌++◌, Bool, true, ◌&&◌, ℕ, zero, suc, ◌+◌, ◌*◌, ◌-◌, ◌%◌, ◌≤◌, length, drop, get_or, leb, eqb}
+use Rattle.std.specs.Prelude.{◌≡◌, List, [], ◌∷◌, ◌++◌, Bool, true, ◌&&◌, ℕ, zero, suc, ◌+◌, ◌*◌, ◌-◌, ◌%◌, ◌≤◌, length, drop, get_or, leb}
 use Rattle.store.specs.declared.Area.{Area}
 use Rattle.store.specs.Store as store
 use Rattle.store.specs.Store.{Frame, room_of, words, part}
 use Rattle.transmit_rules.specs.declared.Fifo.{Fifo}
-use Rattle.transmit_rules.specs.Queue.{Part, no_part, Queue, free}
+use Rattle.transmit_rules.specs.Queue.{Part, no_part, Queue}
 use Rattle.transmit_rules.specs.Write.{sized}
 use Rattle.transmit_rules.specs.QueueSound.{orderly}
 
@@ -28,14 +28,9 @@ abbrev pub queue_of : ℕ → Fifo → List ℕ → List ℕ → Queue
 queue_of size f ram dir =
     record { failed = f.failed; packets = packets_of size f.packets ram dir; part = part_of size f.packets f.words ram dir }
 
--- TX Free stands as a count: it is what the sum over the packets, and the words of the one being written, leave
-abbrev pub Counted : ℕ → Fifo → List ℕ → List ℕ → Type 0
-Counted size f ram dir = f.free ≡ free size (queue_of size f ram dir)
-
--- the packets lie in their area, and TX Free is counted
-pub record Packed (size : ℕ) (f : Fifo) (ram dir : List ℕ) : Type 0 where
-  pub lies : store.Sound (tx_area size) f.packets ram dir
-  pub counted : Counted size f ram dir
+-- the packets lie in their area
+abbrev pub Packed : ℕ → Fifo → List ℕ → List ℕ → Type 0
+Packed size f ram dir = store.Sound (tx_area size) f.packets ram dir
 
 -- the FIFO is sound
 pub record Holds (size : ℕ) (f : Fifo) (ram dir : List ℕ) : Type 0 where
@@ -60,7 +55,6 @@ unfoldable pub sound_fifo : ℕ → Fifo → List ℕ → List ℕ → Bool
 sound_fifo size f ram dir =
     leb f.packets 341
     && leb (room_of (part 768 f.packets dir)) size
-    && eqb f.free (free size (queue_of size f ram dir))
     && orderly size (queue_of size f ram dir)
 
 -- a good length in every word of a directory

@@ -1,11 +1,10 @@
 // The transmit side: the FIFO and the packet that leaves it, the status stack, the sender and what it reports, and the whole together.
 
-// `free`: TX Free; `packets`: how many are whole; `words`: how many have come of the one being written.
+// `packets`: how many are whole; `words`: how many have come of the one being written.
 #[repr(C)]
 #[derive(Drop)]
 pub struct Fifo {
     pub failed: bool,
-    pub free: u16,
     pub packets: usize,
     pub words: usize,
 }

@@ -1,9 +1,11 @@
 // The register map: what a word read gives, window by window.
 ghost use Rattle.std.specs.Prelude.{◌≡◌, List, ℕ, ◌+◌, ◌*◌, ◌-◌, ◌%◌, ◌≤◌, ◌<◌};
 ghost use Rattle.bits.specs.Bits.{has, weigh};
+ghost use Rattle.receive_rules.specs.Reading.{rx_free};
 ghost use Rattle.transmit_rules.specs.Outcome.{top};
 ghost use Rattle.transmit_rules.specs.OutcomesView.{Stacked, stack};
-ghost use Rattle.card_rules.specs.View.{view, Sound};
+ghost use Rattle.card_rules.specs.Room.{tx_free};
+ghost use Rattle.card_rules.specs.View.{rx_size_of, view, Sound};
 ghost use Rattle.card_rules.specs.Read.{window0, window1, window2, window3, window5, word_at};
 
 use card_rules::Card;
@@ -14,6 +16,22 @@ fn tx_status(c: Card) -> u16
     ensures { result ≡ top (stack c.transmit.outcomes.statuses) * 256 }
 {
     bits::wide(transmit::top_status(c.transmit.outcomes)) * 256
+}
+
+// TX Free.
+fn tx_free(ram: &[u8], dir: &[u16], c: Card) -> u16
+    requires { Sound c ram.now dir.now }
+    ensures { result ≡ tx_free (view c ram.now dir.now) }
+{
+    transmit::tx_free(ram, dir, regs::tx_size(c.config.second), c.transmit) as u16
+}
+
+// RX Free.
+fn rx_free(ram: &[u8], dir: &[u16], c: Card) -> u16
+    requires { Sound c ram.now dir.now }
+    ensures { result ≡ rx_free (rx_size_of c) (view c ram.now dir.now).rx.frames }
+{
+    receive::rx_free(ram, dir, regs::rx_size(c.config.second), c.receive) as u16
 }
 
 // Window 0.
@@ -40,7 +58,7 @@ fn read_1(ram: &[u8], dir: &[u16], c: Card, o: u16) -> u16
     match o {
         0x08 => regs::rx_status(ram, dir, c),
         0x0a => tx_status(c),
-        0x0c => c.transmit.fifo.free / 4 * 4,
+        0x0c => tx_free(ram, dir, c) / 4 * 4,
         _ => 0,
     }
 }
@@ -76,8 +94,8 @@ fn read_3(ram: &[u8], dir: &[u16], c: Card, o: u16) -> u16
     match o {
         0x00 => byte_wide(c.config.first),
         0x02 => c.config.second,
-        0x0a => c.receive.free,
-        0x0c => c.transmit.fifo.free,
+        0x0a => rx_free(ram, dir, c),
+        0x0c => tx_free(ram, dir, c),
         _ => 0,
     }
 }

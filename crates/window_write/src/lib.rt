@@ -183,7 +183,7 @@ fn set_first(c: Card, v: u16) -> Card
     next
 }
 
-// The second: a split written with a FIFO in use does nothing; with none in use each side's room is free.
+// The second: a split written with a FIFO in use does nothing.
 fn resplit(c: Card, v: u16) -> Card
     ensures { Does c result (resplit_of v) }
 {
@@ -191,8 +191,6 @@ fn resplit(c: Card, v: u16) -> Card
     let packets = c.transmit.fifo.packets;
     let words = c.transmit.fifo.words;
     let old = c.config.second;
-    let rx = regs::rx_size(v) as u16;
-    let tx = regs::tx_size(v) as u16;
     let mut next = c;
     if (0 < frames) | (0 < packets) | (0 < words) {
         let second = v / 4 * 4 + old % 4;
@@ -200,8 +198,6 @@ fn resplit(c: Card, v: u16) -> Card
         return next;
     }
     next.config.second = v;
-    next.receive.free = rx;
-    next.transmit.fifo.free = tx;
     next
 }
 

@@ -1,67 +1,50 @@
--- `queue::fifo_sound` meets its contract: what is taken and TX Free must be the whole, and then its tests on the directory's words are the definition's on the packets. Assumes nothing.
-use mathlib.Core.Path.{◌≡◌, sym}
-use mathlib.Core.Bool.{false}
-use Prim.Native.Nat.{◌+◌, ◌*◌, ◌≤◌}
+-- `queue::fifo_sound` meets its contract: its tests on the directory's words are the definition's on the packets. Assumes nothing.
+use mathlib.Core.Path.{◌≡◌}
+use mathlib.Core.Bool.{true, false}
+use Prim.Native.Nat.{◌≤◌}
 use native.Mathlib.Omega.{arith}
+use borrow.Author.Tests.{le-leb, lt-leb}
 use borrow.Author.Rules.{rules}
-use Rattle.store.specs.Store.{room_of, part}
-use Rattle.store.proofs.Laws.{room_most}
-use Rattle.transmit_rules.specs.QueueView.{Holds, sound_fifo}
-use Rattle.transmit_rules.proofs.Parts.{part_length}
-use Rattle.transmit_rules.proofs.Facts.{facts, shares}
-use Rattle.transmit_rules.proofs.QueueSound.{unsound, shared_sound}
+use lib.Dec.{leb}
+use Rattle.store.specs.Store as store
+use Rattle.transmit_rules.specs.QueueView.{sound_fifo, Packed}
+use Rattle.transmit_rules.proofs.QueueSound.{orderly-same, words-many}
 use Rattle.queue.proofs.fifo_sound.Statement.{statement}
 use Rattle.queue.proofs.fifo_sound.Tie as tie
 
--- at most 341 words, and so their room
-most : (c : tie.Start) → c.args.f.packets ≤ 341 → room_of (part 768 c.args.f.packets c.args.dir.now) ≤ 698368
-most c few =
-    let n = c.args.f.packets in
-    omega (arith, room_most (part 768 n c.args.dir.now), part_length c.args.dir.now 768 n (omega (arith, c.requires.2)))
-
--- what cannot be sound is not
-never : (c : tie.Start) → (Holds c.args.size c.args.f c.args.ram.now c.args.dir.now → ⊥) → sound_fifo c.args.size c.args.f c.args.ram.now c.args.dir.now ≡ false
-never c = unsound c.args.size c.args.f c.args.ram.now c.args.dir.now c.requires.0 c.requires.1 c.requires.2
+-- the packets lie in their area, where the tests before the others say so
+packed : (c : tie.Start) (used : _) → c.args.f.packets ≤ 341 → used ≡ store.room_of (store.part 768 c.args.f.packets c.args.dir.now) → used ≤ c.args.size
+    → Packed c.args.size c.args.f c.args.ram.now c.args.dir.now
+packed c used few u k = record { in_ram = omega (arith, c.requires.0, c.requires.1); in_dir = omega (arith, c.requires.2); few = omega arith; small = omega arith; room = omega arith }
 
 returns : tie.Need-returns
-returns c =
-    let o = c.before.before.before in
-    let s = o.args in
-    sym (never o (λ H. omega (arith, (facts s.size s.f s.ram.now s.dir.now H).place, c.if1.true)))
+unfolding sound_fifo
+returns c = rw (lt-leb _ _ c.if1.true)
 
 returns-2 : tie.Need-returns-2
+unfolding sound_fifo
 returns-2 c =
-    let o = c.before.before.before.before in
-    let s = o.args in
-    sym (never o (λ H. omega (arith, (facts s.size s.f s.ram.now s.dir.now H).few, c.if2.true)))
-
-add-if3 : tie.Need-overflow-add-if3
-add-if3 c = omega (arith, most c.before.before.before.before.before c.before.before.if1.false, c.used.ensures, c.before.before.if1.false)
-
-add-if3-2 : tie.Need-overflow-add-if3-2
-add-if3-2 c = omega (arith, most c.before.before.before.before.before c.before.before.if1.false, c.used.ensures, c.before.before.if1.false, c.before.if2.false)
-
-add-if3-3 : tie.Need-overflow-add-if3-3
-add-if3-3 c =
-    omega (arith, most c.before.before.before.before.before.before c.before.before.before.if1.false, c.before.used.ensures, c.before.before.before.if1.false, c.before.before.if2.false)
+    let s = c.before.before.before.before.before.args in
+    let u = store.room_of (store.part 768 s.f.packets s.dir.now) in
+    let k : leb u s.size ≡ false = lt-leb u s.size (omega (arith, c.before.used.ensures, c.if2.true)) in
+    rw (le-leb _ _ c.before.before.if1.false, k)
 
 returns-3 : tie.Need-returns-3
+unfolding sound_fifo
 returns-3 c =
-    let o = c.before.before.before.before.before.before.before in
-    let s = o.args in
-    sym (never o (λ H. c.if3.true (omega (arith, shares s.size s.f s.ram.now s.dir.now H, c.before.before.used.ensures))))
+    let s = c.before.before.before.before.before.before.args in
+    let u = store.room_of (store.part 768 s.f.packets s.dir.now) in
+    let k : leb u s.size ≡ true = le-leb u s.size (omega (arith, c.before.before.used.ensures, c.before.if2.false)) in
+    rw (words-many s.size s.f s.ram.now s.dir.now c.before.before.before.before.before.before.requires.0 c.if3.true, le-leb _ _ c.before.before.before.if1.false, k)
 
 returns-4 : tie.Need-returns-4
+unfolding sound_fifo
 returns-4 c =
-    let o = c.before.before.before.before.before.before.before.before.before in
-    let s = o.args in
-    let all : room_of (part 768 s.f.packets s.dir.now) + 4 * s.f.packets + 2 * s.f.words + s.f.free ≡ s.size =
-    omega (arith, c.before.before.before.before.used.ensures, c.before.before.if3.false) in
-    rw (c.good-part.ensures, c.before.good-words.ensures)
-    (shared_sound s.size s.f s.ram.now s.dir.now o.requires.0 o.requires.1 o.requires.2 c.before.before.before.before.before.before.if1.false all)
+    let s = c.before.before.before.before.before.before.before.before.args in
+    let u = store.room_of (store.part 768 s.f.packets s.dir.now) in
+    let k : leb u s.size ≡ true = le-leb u s.size (omega (arith, c.before.before.before.before.used.ensures, c.before.before.before.if2.false)) in
+    rw (c.good-part.ensures, c.before.good-words.ensures, le-leb _ _ c.before.before.before.before.before.if1.false, k)
+    (orderly-same s.size c.before.before.before.before.used.result s.f s.ram.now s.dir.now (packed c.before.before.before.before.before.before.before.before _ c.before.before.before.before.before.if1.false c.before.before.before.before.used.ensures c.before.before.before.if2.false) c.before.before.before.before.used.ensures)
 
 pub fifo-sound-spec : {M : Type 1} → statement M
-fifo-sound-spec =
-    tie.close
-    (tie.spec returns returns-2 (λ c κs. search rules) (λ c. search rules) add-if3 (λ c. search rules) add-if3-2 (λ c. search rules) add-if3-3
-    returns-3 (λ c κs. search rules) (λ c κs. search rules) returns-4)
+fifo-sound-spec = tie.close (tie.spec returns (λ c κs. search rules) returns-2 returns-3 (λ c κs. search rules) (λ c κs. search rules) (λ c. search rules) (λ c. search rules) (λ c. search rules) (λ c. search rules) returns-4)

@@ -10,9 +10,7 @@ use Rattle.regs.proofs.is_quiet.Tie as tie
 early-settled-requires : tie.Need-early-settled-requires
 early-settled-requires c κs =
     let s = c.before.before.before in
-    let p : rx.Packed c.rx-size.result s.args.c.receive s.args.ram.now s.args.dir.now =
-    subst⁻¹ (λ (n : ℕ). rx.Packed n s.args.c.receive s.args.ram.now s.args.dir.now) c.rx-size.ensures.0 s.requires.0.frames in
-    p.lies
+    subst⁻¹ (λ (n : ℕ). rx.Packed n s.args.c.receive s.args.ram.now s.args.dir.now) c.rx-size.ensures.0 s.requires.0.frames
 
 returns : tie.Need-returns
 returns c q =

@@ -8,11 +8,9 @@ use Rattle.regs.proofs.power_on.Tie as tie
 returns : tie.Need-returns
 unfolding power_on
 returns c =
-    let s = c.before.before.before.before.before.before.before.args in
-    let first = c.before.before.before.before.before.before.fresh in
-    let outcomes = c.before.before.before.before.before.fresh2 in
-    rw (c.drained.ensures, c.before.tx-size.ensures.0, c.before.before.quiet.ensures, c.before.before.before.rx-size.ensures.0, c.before.before.before.before.loaded.ensures)
-    (started-blank s.words s.wire first.result outcomes.result first.ensures outcomes.ensures)
+    let s = c.before.before.before.before.args in
+    rw (c.quiet.ensures, c.before.loaded.ensures)
+    (started-blank s.words s.wire c.before.before.before.fresh.result c.before.before.fresh2.result c.before.before.before.fresh.ensures c.before.before.fresh2.ensures)
 
 pub power-on-spec : {M : Type 1} → statement M
-power-on-spec = tie.close (tie.spec (λ c κs. search rules) (λ c κs. search rules) (λ c κs. search rules) (λ c κs. search rules) (λ c κs. search rules) (λ c κs. search rules) (λ c κs. search rules) returns)
+power-on-spec = tie.close (tie.spec (λ c κs. search rules) (λ c κs. search rules) (λ c κs. search rules) (λ c κs. search rules) returns)

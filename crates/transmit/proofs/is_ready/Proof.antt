@@ -4,7 +4,7 @@ use Rattle.transmit.proofs.is_ready.Statement.{statement}
 use Rattle.transmit.proofs.is_ready.Tie as tie
 
 returns : tie.Need-returns
-returns c = λ size ram dir P. rw (any_of size c.before.before.args.t.fifo.packets ram dir P.lies)
+returns c = λ size ram dir P. rw (any_of size c.before.before.args.t.fifo.packets ram dir P)
 
 pub is-ready-spec : {M : Type 1} → statement M
 is-ready-spec = tie.close (tie.spec returns)

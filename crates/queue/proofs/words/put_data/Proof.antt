@@ -28,23 +28,17 @@ slice-write-ram-2 c =
 shared-slice-read-len : tie.Need-shared-slice-read-len
 shared-slice-read-len c =
     let s = c.before.args in
-    omega (arith, (facts s.size s.f s.ram.now s.dir.now c.before.requires.0.0).place, c.before.requires.0.0.packed.lies.in_dir)
+    omega (arith, (facts s.size s.f s.ram.now s.dir.now c.before.requires.0.0).place, c.before.requires.0.0.packed.in_dir)
 
 returns : tie.Need-returns
 returns c =
-    let o = c.before.before.before in
-    let s = o.args in
-    data_whole s.size s.v s.at s.f s.ram.now s.dir.now o.requires.0.0 o.requires.0.1 o.requires.0.2 o.requires.1 c.before.if1.true
+    let s = c.before.before.args in
+    data_whole s.size s.v s.at s.f s.ram.now s.dir.now c.before.before.requires.0.0 c.before.before.requires.0.1 c.before.before.requires.0.2 c.before.before.requires.1 c.if1.true
 
 returns-2 : tie.Need-returns-2
 returns-2 c =
-    let o = c.before.before.before in
-    let s = o.args in
-    data_more s.size s.v s.at s.f s.ram.now s.dir.now o.requires.0.0 o.requires.0.1 o.requires.0.2 o.requires.1 c.before.if1.false
+    let s = c.before.before.args in
+    data_more s.size s.v s.at s.f s.ram.now s.dir.now c.before.before.requires.0.0 c.before.before.requires.0.1 c.before.before.requires.0.2 c.before.before.requires.1 c.if1.false
 
 pub put-data-spec : {M : Type 1} → statement M
-put-data-spec =
-    tie.close
-    (tie.spec (λ c. search rules) slice-write-ram (λ c. search rules) add-ram slice-write-ram-2 (λ c. search rules) (λ c. search rules) shared-slice-read-len
-    (λ c. search rules) (λ c. search rules) (λ c. search rules) (λ c. search rules) (λ c. search rules)
-    (λ c. search rules) (λ c. search rules) (λ c. search rules) returns (λ c. search rules) (λ c. search rules) (λ c. search rules) returns-2)
+put-data-spec = tie.close (tie.spec (λ c. search rules) slice-write-ram (λ c. search rules) add-ram slice-write-ram-2 (λ c. search rules) (λ c. search rules) shared-slice-read-len (λ c. search rules) (λ c. search rules) (λ c. search rules) (λ c. search rules) (λ c. search rules) (λ c. search rules) (λ c. search rules) returns (λ c. search rules) (λ c. search rules) returns-2)

@@ -34,7 +34,7 @@ module _ (u : ℤ) (p : ℕ) (f : SFits w16 u) (s : mag u < 2048) (l : p < 4) wh
   whole = to_z-of_z w16 _ fits ∙ sum u p f s l
 
 pad-requires : tie.Need-pad-requires
-pad-requires c κs = c.before.before.before.requires.packed.lies
+pad-requires c κs = c.before.before.before.requires.packed
 
 few : (o : tie.Start) (u : ℤ) → u ≡ unread_in o.args.r.receiver.read (frames_of o.args.size o.args.r.frames o.args.ram.now o.args.dir.now) → mag u < 2048
 few o u e =

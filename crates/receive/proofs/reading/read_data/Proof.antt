@@ -51,21 +51,21 @@ add-end c =
     let o = c.before.before.before.before.before.before in
     let s = o.args in
     let l = c.before.left in
-    omega (arith, two o (past o l.result l.type-inv l.ensures false c.if2.false), readable-small s.size s.r.frames s.ram.now s.dir.now o.requires.packed.lies)
+    omega (arith, two o (past o l.result l.type-inv l.ensures false c.if2.false), readable-small s.size s.r.frames s.ram.now s.dir.now o.requires.packed)
 
 oldest-byte-requires : tie.Need-oldest-byte-requires
 oldest-byte-requires c κs =
     let o = c.before.before.before.before.before.before in
     let s = o.args in
     let l = c.before.left in
-    (o.requires.packed.lies, readable_there s.size s.r.frames s.r.receiver.read s.ram.now s.dir.now (two o (past o l.result l.type-inv l.ensures false c.if2.false)))
+    (o.requires.packed, readable_there s.size s.r.frames s.r.receiver.read s.ram.now s.dir.now (two o (past o l.result l.type-inv l.ensures false c.if2.false)))
 
 oldest-byte-requires-2 : tie.Need-oldest-byte-requires-2
 oldest-byte-requires-2 c κs =
     let o = c.before.before.before.before.before.before.before in
     let s = o.args in
     let l = c.before.before.left in
-    (o.requires.packed.lies, readable_there s.size s.r.frames s.r.receiver.read s.ram.now s.dir.now (two o (past o l.result l.type-inv l.ensures false c.before.if2.false)))
+    (o.requires.packed, readable_there s.size s.r.frames s.r.receiver.read s.ram.now s.dir.now (two o (past o l.result l.type-inv l.ensures false c.before.if2.false)))
 
 returns-3 : tie.Need-returns-3
 unfolding data_word after_read

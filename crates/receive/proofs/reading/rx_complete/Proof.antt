@@ -13,7 +13,7 @@ returns c = rw (none _ _ _ _ c.if1.true)
 returns-2 : tie.Need-returns-2
 returns-2 c =
     let s = c.before.before.args in
-    rw (complete-some s.size s.r.frames s.ram.now s.dir.now c.before.before.requires.packed.lies c.before.if1.false)
+    rw (complete-some s.size s.r.frames s.ram.now s.dir.now c.before.before.requires.packed c.before.if1.false)
 
 pub rx-complete-spec : {M : Type 1} → statement M
 rx-complete-spec = tie.close (tie.spec returns (λ c. search rules) returns-2)

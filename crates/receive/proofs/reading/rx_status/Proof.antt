@@ -32,7 +32,7 @@ module _ (o : tie.Start) (h : o.args.r.frames ≡ 0 → ⊥) (told : ℕ) (u : �
   shown : told ≡ encoded (unread (get_or o.args.dir.now 0 0 % 2048) o.args.r.receiver.read)
   shown =
       let s = o.args in
-      e ∙ ap encoded (f ∙ unread-some s.size s.r.frames s.ram.now s.dir.now o.requires.packed.lies h s.r.receiver.read)
+      e ∙ ap encoded (f ∙ unread-some s.size s.r.frames s.ram.now s.dir.now o.requires.packed h s.r.receiver.read)
 
 add-result : tie.Need-overflow-add-result
 add-result c = omega (arith, c.before.encoded.ensures.1)
@@ -42,7 +42,7 @@ returns-2 c =
     let o = c.before.before.before.before.before.before.before in
     let h = c.before.before.before.before.if1.false in
     let s = o.args in
-    rw (status-some s.size s.r.frames s.ram.now s.dir.now o.requires.packed.lies h s.r.receiver.read, marks-coming _ c.if2.true)
+    rw (status-some s.size s.r.frames s.ram.now s.dir.now o.requires.packed h s.r.receiver.read, marks-coming _ c.if2.true)
     (ap (λ (k : ℕ). 32768 + k) (shown o h _ _ c.before.encoded.ensures.0 (back c.before.before.unread.result c.before.before.unread.type-inv ∙ c.before.before.unread.ensures)))
 
 add-result-2 : tie.Need-overflow-add-result-2
@@ -54,7 +54,7 @@ returns-3 c =
     let h = c.before.before.before.before.before.if1.false in
     let s = o.args in
     let w : ℕ = get_or s.dir.now 0 0 in
-    rw (status-some s.size s.r.frames s.ram.now s.dir.now o.requires.packed.lies h s.r.receiver.read, marks-damaged _ c.before.if2.false c.if3.true)
+    rw (status-some s.size s.r.frames s.ram.now s.dir.now o.requires.packed h s.r.receiver.read, marks-damaged _ c.before.if2.false c.if3.true)
     (ap (λ (k : ℕ). w - w % 2048 + k) (shown o h _ _ c.before.before.encoded.ensures.0 (back c.before.before.before.unread.result c.before.before.before.unread.type-inv ∙ c.before.before.before.unread.ensures)))
 
 returns-4 : tie.Need-returns-4
@@ -62,7 +62,7 @@ returns-4 c =
     let o = c.before.before.before.before.before.before.before.before in
     let h = c.before.before.before.before.before.if1.false in
     let s = o.args in
-    rw (status-some s.size s.r.frames s.ram.now s.dir.now o.requires.packed.lies h s.r.receiver.read, marks-whole _ c.if3.false, zero-add)
+    rw (status-some s.size s.r.frames s.ram.now s.dir.now o.requires.packed h s.r.receiver.read, marks-whole _ c.if3.false, zero-add)
     (shown o h _ _ c.before.before.encoded.ensures.0 (back c.before.before.before.unread.result c.before.before.before.unread.type-inv ∙ c.before.before.before.unread.ensures))
 
 pub rx-status-spec : {M : Type 1} → statement M

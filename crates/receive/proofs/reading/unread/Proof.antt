@@ -20,7 +20,7 @@ use Rattle.receive.proofs.reading.unread.Tie as tie
 few : (c : tie.Start) → (c.args.r.frames ≡ 0 → ⊥) → c.args.r.receiver.read ≤ get_or c.args.dir.now 0 0 % 2048 + 3
 few c h =
     let s = c.args in
-    omega (arith, (facts s.size s.r s.ram.now s.dir.now c.requires).read, readable-most s.size s.r.frames s.ram.now s.dir.now c.requires.packed.lies h)
+    omega (arith, (facts s.size s.r s.ram.now s.dir.now c.requires).read, readable-most s.size s.r.frames s.ram.now s.dir.now c.requires.packed h)
 
 -- the machine's difference of two small numbers
 module _ (n r : ℕ) (l : n < 2048) (m : r ≤ n + 3) where
@@ -44,7 +44,7 @@ returns-2 c =
     let o = c.before.before.before in
     let s = o.args in
     to_z-of_z w16 _ (sub-result c) ∙ apart _ _ (omega arith) (few o c.before.before.if1.false)
-    ∙ sym (unread-some s.size s.r.frames s.ram.now s.dir.now o.requires.packed.lies c.before.before.if1.false s.r.receiver.read)
+    ∙ sym (unread-some s.size s.r.frames s.ram.now s.dir.now o.requires.packed c.before.before.if1.false s.r.receiver.read)
 
 pub unread-spec : {M : Type 1} → statement M
 unread-spec = tie.close (tie.spec returns (λ c. search rules) (λ c. search rules) cast-read sub-result returns-2)

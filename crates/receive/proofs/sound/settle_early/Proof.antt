@@ -18,7 +18,7 @@ returns-2 c =
     let o = c.before.before.before.before.before.before.before.before in
     let s = o.args in
     step_same s.size _ s.ram.now s.dir.now _ o.requires
-    (rw (early_some s.size s.r.frames s.ram.now s.dir.now o.requires.lies c.before.before.before.before.before.before.before.if1.false s.r.receiver, told-some s.size s.r.frames s.ram.now s.dir.now o.requires.lies c.before.before.before.before.before.before.before.if1.false s.r.receiver))
+    (rw (early_some s.size s.r.frames s.ram.now s.dir.now o.requires c.before.before.before.before.before.before.before.if1.false s.r.receiver, told-some s.size s.r.frames s.ram.now s.dir.now o.requires c.before.before.before.before.before.before.before.if1.false s.r.receiver))
 
 pub settle-early-spec : {M : Type 1} → statement M
 settle-early-spec = tie.close (tie.spec returns (λ c. search rules) returns-2)

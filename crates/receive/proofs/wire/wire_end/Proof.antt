@@ -1,4 +1,4 @@
--- `wire::wire_end` meets its contract: the newest frame's flags are those of its ending, and an ignored frame leaves no more than an idle wire; no room changes. Assumes nothing.
+-- `wire::wire_end` meets its contract: the newest frame's flags are those of its ending, and an ignored frame leaves no more than an idle wire. Assumes nothing.
 use borrow.Author.Rules.{rules}
 use borrow.Author.Tests.{eq-eqb, ne_eqb}
 use mathlib.Core.Path.{◌≡◌}
@@ -7,7 +7,6 @@ use native.Mathlib.Omega.{arith}
 use Rattle.receive_rules.specs.Wire.{wire_end}
 use Rattle.receive_rules.proofs.Facts.{stored_some}
 use Rattle.receive_rules.proofs.Steps.{step_same, step-turns}
-use Rattle.receive.proofs.Free.{free_ended}
 use Rattle.receive.proofs.Paths.{frame-ends}
 use Rattle.receive.proofs.wire.wire_end.Statement.{statement}
 use Rattle.receive.proofs.wire.wire_end.Tie as tie
@@ -28,13 +27,13 @@ sub-last c = omega (arith, some c.before.before.before.before.before c.if1.false
 slice-read-last : tie.Need-slice-read-last
 slice-read-last c =
     let o = c.before.before.before.before.before.before in
-    let p = o.requires.packed.lies in
+    let p = o.requires.packed in
     omega (arith, some o c.before.if1.false, p.in_dir, p.few)
 
 set-head-requires : tie.Need-set-head-requires
 set-head-requires c κs =
     let o = c.before.before.before.before.before.before.before.before in
-    (o.requires.packed.lies, some o c.before.before.before.if1.false, c.end-head.ensures.1)
+    (o.requires.packed, some o c.before.before.before.if1.false, c.end-head.ensures.1)
 
 returns-2 : tie.Need-returns-2
 unfolding wire_end
@@ -42,8 +41,7 @@ returns-2 c =
     let o = c.before.before.before.before.before.before.before.before.before.before.before in
     let s = o.args in
     step-turns s.size _ s.ram.now s.dir.now _ _ _ _
-    (frame-ends s.size s.r.frames _ s.check s.alignment s.ram.now s.dir.now _ _ o.requires.packed.lies (some o c.before.before.before.before.before.before.if1.false) c.before.before.before.end-head.ensures.0 c.before.before.set-head.ensures)
-    (free_ended s.size s.r.frames s.r.free s.ram.now s.dir.now o.requires.packed.lies o.requires.packed.counted s.check s.alignment)
+    (frame-ends s.size s.r.frames _ s.check s.alignment s.ram.now s.dir.now _ _ o.requires.packed (some o c.before.before.before.before.before.before.if1.false) c.before.before.before.end-head.ensures.0 c.before.before.set-head.ensures)
     (rw (eq-eqb _ _ c.before.before.before.before.before.before.if1.false))
 
 pub wire-end-spec : {M : Type 1} → statement M

@@ -9,7 +9,7 @@ use port_rules::IdState;
 
 // The bit that a card drives, and the code.
 #[repr(C)]
-#[derive(Drop)]
+#[derive(Clone, Copy)]
 pub struct CardBit {
     pub bit: u8,
     pub code: u8,

@@ -6,7 +6,7 @@ mod driver_lines; // driver_lines.rt: the driver's calls
 mod session; // session.rt: one line of a script
 
 // The state between two pieces: the bench, and how many characters of an unfinished line stand in the line's room; 8,194 for too many.
-#[derive(Drop)]
+#[derive(Clone, Copy)]
 pub struct Playing {
     pub bench: Bench,
     pub count: usize,
@@ -66,7 +66,7 @@ fn feed(
 }
 
 // What a turn leaves, and whether there may be more to read.
-#[derive(Drop)]
+#[derive(Clone, Copy)]
 pub struct Played {
     pub playing: Playing,
     pub more: bool,

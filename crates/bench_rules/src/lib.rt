@@ -1,14 +1,14 @@
 // The bench's text: numbers and bytes as text, which line of a script asks for what, the answers as lines.
 
 // A byte string in hex: how many bytes, or not one.
-#[derive(Drop)]
+#[derive(Clone, Copy)]
 pub enum Spelled {
     Bytes(usize),
     Wrong,
 }
 
 // What the bench answers. Bytes and addresses stand beside it.
-#[derive(Drop)]
+#[derive(Clone, Copy)]
 pub enum Reply {
     Nothing,
     What,
@@ -30,7 +30,7 @@ pub enum Reply {
 }
 
 // What a line asks for, by its first word; an empty line or a comment asks nothing.
-#[derive(Drop)]
+#[derive(Clone, Copy)]
 pub enum Kind {
     Nothing,
     Unknown,
@@ -56,7 +56,7 @@ pub enum Kind {
 }
 
 // A line understood: up to three numbers, or how many bytes its operand spells.
-#[derive(Drop)]
+#[derive(Clone, Copy)]
 pub struct Line {
     pub kind: Kind,
     pub a: u16,

@@ -11,7 +11,7 @@ pub mod lines; // lines.rt: parts of a line
 pub use cards::{join, power};
 
 // The bench's own card, its driver, and the other cards on the ID port: the first `others` of `joined`.
-#[derive(Drop)]
+#[derive(Clone, Copy)]
 pub struct Bench {
     pub card: Card,
     pub driver: Driver,
@@ -20,7 +20,7 @@ pub struct Bench {
 }
 
 // What a line leaves: the state, and the length of its answer in the text.
-#[derive(Drop)]
+#[derive(Clone, Copy)]
 pub struct Stepped {
     pub bench: Bench,
     pub len: usize,

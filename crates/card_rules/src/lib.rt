@@ -6,7 +6,7 @@ use transmit_rules::Transmit;
 
 // The window, the interrupt mask, the Read Zero mask and the RX filter.
 #[repr(C)]
-#[derive(Drop)]
+#[derive(Clone, Copy)]
 pub struct Select {
     pub window: u16,
     pub mask: u16,
@@ -16,7 +16,7 @@ pub struct Select {
 
 // The Interrupt Latch, Interrupt Requested, and the low byte held of a command.
 #[repr(C)]
-#[derive(Drop)]
+#[derive(Clone, Copy)]
 pub struct Lines {
     pub latch: bool,
     pub requested: bool,
@@ -25,7 +25,7 @@ pub struct Lines {
 
 // What was loaded from the EEPROM (words 03h, 09h, 12h and 13h), the ENA bit, and the station address.
 #[repr(C)]
-#[derive(Drop)]
+#[derive(Clone, Copy)]
 pub struct Config {
     pub product: u16,
     pub resource: u16,
@@ -37,14 +37,14 @@ pub struct Config {
 
 // The last EEPROM command, and whether erasing and writing is enabled.
 #[repr(C)]
-#[derive(Drop)]
+#[derive(Clone, Copy)]
 pub struct Prom {
     pub last: u8,
     pub writable: bool,
 }
 
 #[repr(C)]
-#[derive(Drop)]
+#[derive(Clone, Copy)]
 pub struct Card {
     pub id: IdState,
     pub select: Select,
@@ -56,7 +56,7 @@ pub struct Card {
 }
 
 // The flags that the low byte of Status shows: Interrupt Latch, Adapter Failure, TX Complete, TX Available, RX Complete, RX Early, Interrupt Requested.
-#[derive(Drop)]
+#[derive(Clone, Copy)]
 pub struct Flags {
     pub latch: bool,
     pub failed: bool,
@@ -68,14 +68,14 @@ pub struct Flags {
 }
 
 // What an EEPROM command leaves.
-#[derive(Drop)]
+#[derive(Clone, Copy)]
 pub struct Setup {
     pub id: IdState,
     pub prom: Prom,
 }
 
 // Which bytes of a register a write covers.
-#[derive(Drop)]
+#[derive(Clone, Copy)]
 pub enum Lanes {
     Both,
     Low,
@@ -83,60 +83,60 @@ pub enum Lanes {
 }
 
 // The card after a read, and the value.
-#[derive(Drop)]
+#[derive(Clone, Copy)]
 pub struct Got {
     pub card: Card,
     pub value: u16,
 }
 
 // The card after a success, and how many bytes the wire was told.
-#[derive(Drop)]
+#[derive(Clone, Copy)]
 pub struct Gone {
     pub card: Card,
     pub n: usize,
 }
 
 // What a read answers.
-#[derive(Drop)]
+#[derive(Clone, Copy)]
 pub enum Read {
     Value(u16),
     Refused(Refusal),
 }
 
 // What `rx_status` answers: the word, and the unread bytes.
-#[derive(Drop)]
+#[derive(Clone, Copy)]
 pub enum RxStatus {
     Shows(u16, i16),
     Refused(Refusal),
 }
 
-#[derive(Drop)]
+#[derive(Clone, Copy)]
 pub struct AfterRead {
     pub card: Card,
     pub answer: Read,
 }
 
 // What a write, a wire call, 16 collisions or a seated ID state answers.
-#[derive(Drop)]
+#[derive(Clone, Copy)]
 pub enum Done {
     Done,
     Refused(Refusal),
 }
 
-#[derive(Drop)]
+#[derive(Clone, Copy)]
 pub struct AfterCall {
     pub card: Card,
     pub answer: Done,
 }
 
 // What a success answers: how many bytes the wire was told.
-#[derive(Drop)]
+#[derive(Clone, Copy)]
 pub enum Told {
     Told(usize),
     Refused(Refusal),
 }
 
-#[derive(Drop)]
+#[derive(Clone, Copy)]
 pub struct AfterSuccess {
     pub card: Card,
     pub answer: Told,

@@ -8,14 +8,14 @@ fn next(x: u64) -> u64 {
 }
 
 // What the calls have given so far.
-#[derive(Drop)]
+#[derive(Clone, Copy)]
 pub struct Tally {
     pub done: u64,
     pub refused: u64,
     pub sum: u64,
 }
 
-#[derive(Drop)]
+#[derive(Clone, Copy)]
 pub struct Bench {
     pub card: Card,
     pub tally: Tally,

@@ -16,7 +16,7 @@ pub fn room() -> [u8; ROOM]
 }
 
 // How much was read, and whether the file goes on.
-#[derive(Drop)]
+#[derive(Clone, Copy)]
 pub struct Got {
     pub ok: bool,
     pub len: usize,

@@ -2,7 +2,7 @@
 use refusal::Refusal;
 
 // What stands at a place.
-#[derive(Drop)]
+#[derive(Clone, Copy)]
 pub enum Found {
     // A whole field: its value has `len` bytes from `start` on.
     Whole { tag: u8, start: usize, len: usize },
@@ -11,7 +11,7 @@ pub enum Found {
 }
 
 // What may come next in a file.
-#[derive(Drop)]
+#[derive(Clone, Copy)]
 pub enum Turn {
     // Nothing has come: a card or the end.
     Begun,
@@ -26,7 +26,7 @@ pub enum Turn {
 }
 
 // What the check of a file answers.
-#[derive(Drop)]
+#[derive(Clone, Copy)]
 pub enum Judged {
     // How many cards it has, and how many fields before the count.
     Sound { cards: usize, fields: usize },
@@ -35,7 +35,7 @@ pub enum Judged {
 }
 
 // Where an image stands in a file.
-#[derive(Drop)]
+#[derive(Clone, Copy)]
 pub enum Place {
     // Its first byte, and how many there are.
     At { start: usize, len: usize },
@@ -44,7 +44,7 @@ pub enum Place {
 }
 
 // Where an image stands in one of two files.
-#[derive(Drop)]
+#[derive(Clone, Copy)]
 pub enum Hit {
     InOverride { start: usize, len: usize },
     InMain { start: usize, len: usize },
@@ -53,14 +53,14 @@ pub enum Hit {
 }
 
 // Where a card's fields begin.
-#[derive(Drop)]
+#[derive(Clone, Copy)]
 pub enum Seek {
     // Behind its address.
     Behind(usize),
     Missing,
 }
 
-#[derive(Drop)]
+#[derive(Clone, Copy)]
 pub enum Written {
     // How many bytes of the area are the new file.
     Bytes(usize),

@@ -188,7 +188,7 @@ fn digit(b: u8) -> u8 {
 }
 
 // An address read, or none.
-#[derive(Drop)]
+#[derive(Clone, Copy)]
 pub struct AddressRead {
     pub ok: bool,
     pub value: u64,
@@ -219,7 +219,7 @@ pub fn address(word: &[u8]) -> AddressRead {
 }
 
 // A version's number read, or none.
-#[derive(Drop)]
+#[derive(Clone, Copy)]
 pub struct VersionRead {
     pub ok: bool,
     pub value: u16,

@@ -39,7 +39,7 @@ pub fn unsound(archive: &[u8], number: u8) -> usize {
 }
 
 // Two images with one address.
-#[derive(Drop)]
+#[derive(Clone, Copy)]
 pub struct Pair {
     pub first: usize,
     pub second: usize,

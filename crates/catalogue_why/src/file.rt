@@ -66,7 +66,7 @@ pub fn damage(file: &[u8]) -> usize
 }
 
 // An address that is listed a second time, and the place where it is.
-#[derive(Drop)]
+#[derive(Clone, Copy)]
 pub struct Again {
     pub address: u64,
     pub at: usize,
@@ -126,7 +126,7 @@ pub fn cards(file: &[u8]) -> usize
 }
 
 // What there is no room for.
-#[derive(Drop)]
+#[derive(Clone, Copy)]
 pub enum Full {
     Cards,
     Versions,

@@ -4,7 +4,7 @@ ghost use Rattle.std.specs.Prelude.{◌+◌, ◌≤◌, length};
 use catalogue_rules::Found;
 
 // A field, and the bytes that it takes with the three of its head; none where the file ends first.
-#[derive(Drop)]
+#[derive(Clone, Copy)]
 pub struct Step {
     pub size: usize,
     pub tag: u8,

@@ -6,7 +6,7 @@ use card_rules::{AfterCall, AfterRead, AfterSuccess, Card, Done, Read, RxStatus,
 
 // The card after a call, and the code.
 #[repr(C)]
-#[derive(Drop)]
+#[derive(Clone, Copy)]
 pub struct CardDone {
     pub card: Card,
     pub code: u8,
@@ -14,7 +14,7 @@ pub struct CardDone {
 
 // The card after a read, the value and the code.
 #[repr(C)]
-#[derive(Drop)]
+#[derive(Clone, Copy)]
 pub struct CardRead {
     pub card: Card,
     pub value: u16,
@@ -23,7 +23,7 @@ pub struct CardRead {
 
 // The card after a success, how many bytes the wire was told, and the code.
 #[repr(C)]
-#[derive(Drop)]
+#[derive(Clone, Copy)]
 pub struct CardTold {
     pub card: Card,
     pub n: usize,
@@ -32,7 +32,7 @@ pub struct CardTold {
 
 // The interrupt line that the card drives, 0 for none, and the code.
 #[repr(C)]
-#[derive(Drop)]
+#[derive(Clone, Copy)]
 pub struct CardLine {
     pub line: u16,
     pub code: u8,
@@ -40,7 +40,7 @@ pub struct CardLine {
 
 // RX Status, the unread bytes and the code.
 #[repr(C)]
-#[derive(Drop)]
+#[derive(Clone, Copy)]
 pub struct CardRxStatus {
     pub word: u16,
     pub unread: i16,

@@ -9,7 +9,7 @@ use refusal::Refusal;
 
 // Card and driver after an open, and the code.
 #[repr(C)]
-#[derive(Drop)]
+#[derive(Clone, Copy)]
 pub struct DriverDone {
     pub card: Card,
     pub driver: Driver,
@@ -18,7 +18,7 @@ pub struct DriverDone {
 
 // Card and driver after a send, the ticket and the code.
 #[repr(C)]
-#[derive(Drop)]
+#[derive(Clone, Copy)]
 pub struct DriverSent {
     pub card: Card,
     pub driver: Driver,
@@ -28,7 +28,7 @@ pub struct DriverSent {
 
 // What a service answers. `kind`: 0 refused, 1 a report (ticket and status), 2 a status alone, 3 a frame of n bytes, 4 idle.
 #[repr(C)]
-#[derive(Drop)]
+#[derive(Clone, Copy)]
 pub struct Service {
     pub kind: u8,
     pub code: u8,
@@ -39,7 +39,7 @@ pub struct Service {
 
 // Card and driver after a service, the answer and the accesses used.
 #[repr(C)]
-#[derive(Drop)]
+#[derive(Clone, Copy)]
 pub struct DriverServed {
     pub card: Card,
     pub driver: Driver,
@@ -49,7 +49,7 @@ pub struct DriverServed {
 
 // Where the part that is handed up lies: the area that it is the front of, 1 the lookahead area and 2 the frame area, and its length.
 #[repr(C)]
-#[derive(Drop)]
+#[derive(Clone, Copy)]
 pub struct HandedUp {
     pub area: u8,
     pub n: usize,

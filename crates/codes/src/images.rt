@@ -6,7 +6,7 @@ use image_rules::Checked;
 
 // The node address, words 00h to 02h, and the code.
 #[repr(C)]
-#[derive(Drop)]
+#[derive(Clone, Copy)]
 pub struct ImageChecked {
     pub node0: u16,
     pub node1: u16,

@@ -6,7 +6,7 @@ use port_rules::{Activation, AfterActivation, AfterSearch, Bus, Found};
 
 // The cards after a search; the addresses found, how many they are, the accesses used, and the code.
 #[repr(C)]
-#[derive(Drop)]
+#[derive(Clone, Copy)]
 pub struct BusFound {
     pub bus: Bus,
     pub addresses: [u64; 7],
@@ -17,7 +17,7 @@ pub struct BusFound {
 
 // The cards after an activation, the accesses used, and the code.
 #[repr(C)]
-#[derive(Drop)]
+#[derive(Clone, Copy)]
 pub struct BusDone {
     pub bus: Bus,
     pub accesses: usize,

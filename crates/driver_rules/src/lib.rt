@@ -32,7 +32,7 @@ pub const RX_FILTER: u16 = 16 * 2048;
 
 // Whether the driver was opened, the packets sent modulo 65,536, those of them unreported, and an error seen since the last TX Enable.
 #[repr(C)]
-#[derive(Drop)]
+#[derive(Clone, Copy)]
 pub struct Driver {
     pub opened: bool,
     pub sent: u16,
@@ -41,7 +41,7 @@ pub struct Driver {
 }
 
 // What service answers; the count of accesses stands beside it.
-#[derive(Drop)]
+#[derive(Clone, Copy)]
 pub enum Answer {
     // The oldest unreported ticket, and the status.
     Reported(u16, u16),
@@ -54,7 +54,7 @@ pub enum Answer {
 }
 
 // What a part of a service leaves. Paused, it goes on with a look at the accesses left.
-#[derive(Drop)]
+#[derive(Clone, Copy)]
 pub struct Served {
     pub driver: Driver,
     pub card: Card,
@@ -63,7 +63,7 @@ pub struct Served {
     pub paused: bool,
 }
 
-#[derive(Drop)]
+#[derive(Clone, Copy)]
 pub struct Serviced {
     pub card: Card,
     pub driver: Driver,
@@ -71,26 +71,26 @@ pub struct Serviced {
     pub used: usize,
 }
 
-#[derive(Drop)]
+#[derive(Clone, Copy)]
 pub enum OpenAnswer {
     Done,
     Refused(Refusal),
 }
 
-#[derive(Drop)]
+#[derive(Clone, Copy)]
 pub struct Opened {
     pub card: Card,
     pub driver: Driver,
     pub answer: OpenAnswer,
 }
 
-#[derive(Drop)]
+#[derive(Clone, Copy)]
 pub enum SendAnswer {
     Ticket(u16),
     Refused(Refusal),
 }
 
-#[derive(Drop)]
+#[derive(Clone, Copy)]
 pub struct Sent {
     pub card: Card,
     pub driver: Driver,

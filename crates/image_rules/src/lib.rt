@@ -2,15 +2,15 @@
 use refusal::Refusal;
 
 // Where a word stands in the EEPROM, counted in words.
-#[derive(Drop)]
+#[derive(Clone, Copy)]
 pub struct WordOffset(pub usize);
 
 // Where a byte stands in the image file, counted in bytes.
-#[derive(Drop)]
+#[derive(Clone, Copy)]
 pub struct BytePlace(pub usize);
 
 // What the check of an image answers.
-#[derive(Drop)]
+#[derive(Clone, Copy)]
 pub enum Checked {
     // The node address: words 00h, 01h and 02h.
     Sound { node0: u16, node1: u16, node2: u16 },
@@ -19,7 +19,7 @@ pub enum Checked {
 }
 
 // A text of at most 22 bytes: the first `len` of `bytes`.
-#[derive(Drop)]
+#[derive(Clone, Copy)]
 pub struct Text {
     pub bytes: [u8; 22],
     pub len: usize,

@@ -9,7 +9,7 @@ use port_rules::{Activation, Bit, IdState, Wrote};
 use refusal::Refusal;
 
 // What the cards looked at so far have told.
-#[derive(Drop)]
+#[derive(Clone, Copy)]
 pub struct Seen {
     pub port: u16,
     pub sound: bool,
@@ -75,7 +75,7 @@ pub fn allowed(port: u16, count: usize) -> bool
 }
 
 // What an access does to each card: the outcome of the tests, x of port 1x0h, and the byte written or the bit that the bus carries.
-#[derive(Drop)]
+#[derive(Clone, Copy)]
 pub struct Step {
     pub sound: bool,
     pub fit: bool,
@@ -159,7 +159,7 @@ pub fn read_answer(step: Step) -> Bit
 }
 
 // What an activation does to each card: the outcome of the tests, x of port 1x0h, and the two commands.
-#[derive(Drop)]
+#[derive(Clone, Copy)]
 pub struct Order {
     pub sound: bool,
     pub fit: bool,

@@ -14,7 +14,7 @@ use refusal::Refusal;
 const ALL_ONES: u64 = 0x_ffff_ffff_ffff;
 
 // What the cards looked at so far have told.
-#[derive(Drop)]
+#[derive(Clone, Copy)]
 pub struct Roll {
     pub port: u16,
     pub sound: bool,
@@ -121,7 +121,7 @@ fn struck(mut addresses: [u64; 8], address: u64) -> [u64; 8]
 }
 
 // The addresses of those that take part still, those found so far, and the accesses made.
-#[derive(Drop)]
+#[derive(Clone, Copy)]
 pub struct Progress {
     pub left: [u64; 8],
     pub addresses: [u64; 7],
@@ -154,7 +154,7 @@ fn rounds(f: Progress, free: usize) -> Progress
 }
 
 // What the search comes to: the outcome of the tests, x of port 1x0h, the addresses that the rounds read before they read all ones, and the accesses made.
-#[derive(Drop)]
+#[derive(Clone, Copy)]
 pub struct Finding {
     pub sound: bool,
     pub fit: bool,

@@ -3,7 +3,7 @@ use refusal::Refusal;
 
 // A card on the ID port. In ID_WAIT (`command` is false) it listens for the sequence at the port that a zero chose; in ID_CMD it obeys.
 #[repr(C)]
-#[derive(Drop)]
+#[derive(Clone, Copy)]
 pub struct IdState {
     pub command: bool,
     // x of port 1x0h, 16 for none.
@@ -23,44 +23,44 @@ pub struct IdState {
 
 // Up to eight cards, of which the first `count` are there.
 #[repr(C)]
-#[derive(Drop)]
+#[derive(Clone, Copy)]
 pub struct Bus {
     pub cards: [IdState; 8],
     pub count: usize,
 }
 
-#[derive(Drop)]
+#[derive(Clone, Copy)]
 pub enum Wrote {
     Refused(Refusal),
     Done,
 }
 
-#[derive(Drop)]
+#[derive(Clone, Copy)]
 pub struct AfterWrite {
     pub bus: Bus,
     pub answer: Wrote,
 }
 
-#[derive(Drop)]
+#[derive(Clone, Copy)]
 pub enum Bit {
     Refused(Refusal),
     Value(u8),
 }
 
-#[derive(Drop)]
+#[derive(Clone, Copy)]
 pub struct AfterRead {
     pub bus: Bus,
     pub answer: Bit,
 }
 
-#[derive(Drop)]
+#[derive(Clone, Copy)]
 pub enum Found {
     Refused(Refusal),
     Cards { count: usize, accesses: usize },
 }
 
 // The first `count` of `addresses` are the station addresses found, in ascending order; the others are 0.
-#[derive(Drop)]
+#[derive(Clone, Copy)]
 pub struct AfterSearch {
     pub bus: Bus,
     pub answer: Found,
@@ -68,19 +68,19 @@ pub struct AfterSearch {
 }
 
 // What a search over a lent slice answers: the cards stay where they are lent.
-#[derive(Drop)]
+#[derive(Clone, Copy)]
 pub struct Listed {
     pub answer: Found,
     pub addresses: [u64; 7],
 }
 
-#[derive(Drop)]
+#[derive(Clone, Copy)]
 pub enum Activation {
     Refused(Refusal),
     Done { accesses: usize },
 }
 
-#[derive(Drop)]
+#[derive(Clone, Copy)]
 pub struct AfterActivation {
     pub bus: Bus,
     pub answer: Activation,

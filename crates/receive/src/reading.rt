@@ -123,7 +123,7 @@ fn left(ram: &[u8], dir: &[u16], size: usize, r: Receive) -> i16
 }
 
 // What a data read gives: the word, and the registers after it.
-#[derive(Drop)]
+#[derive(Clone, Copy)]
 pub struct Got {
     pub word: u16,
     pub receive: Receive,

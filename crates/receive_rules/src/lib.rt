@@ -3,7 +3,7 @@
 // `early`: RX Early stands; `told`: it was set for the oldest frame; `read`: the bytes read of the oldest frame.
 // `wire`: 0 no frame on the wire, 1 the frame on the wire is ignored to its end, 2 it is stored.
 #[repr(C)]
-#[derive(Drop)]
+#[derive(Clone, Copy)]
 pub struct Receiver {
     pub on: bool,
     pub failed: bool,
@@ -16,7 +16,7 @@ pub struct Receiver {
 
 // The registers, and how many frames are stored.
 #[repr(C)]
-#[derive(Drop)]
+#[derive(Clone, Copy)]
 pub struct Receive {
     pub receiver: Receiver,
     pub frames: usize,

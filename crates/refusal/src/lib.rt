@@ -2,7 +2,7 @@
 ghost use Rattle.refusal.specs.RefusalContracts as contract;
 
 // Each is named by what is wrong.
-#[derive(Drop)]
+#[derive(Clone, Copy)]
 pub enum Refusal {
     // The state handed in is unsound.
     StateUnsound,

@@ -2,7 +2,7 @@
 
 // `packets`: how many are whole; `words`: how many have come of the one being written.
 #[repr(C)]
-#[derive(Drop)]
+#[derive(Clone, Copy)]
 pub struct Fifo {
     pub failed: bool,
     pub packets: usize,
@@ -11,7 +11,7 @@ pub struct Fifo {
 
 // The first `count` of 31 entries are the statuses.
 #[repr(C)]
-#[derive(Drop)]
+#[derive(Clone, Copy)]
 pub struct Statuses {
     pub entries: [u8; 31],
     pub count: usize,
@@ -19,7 +19,7 @@ pub struct Statuses {
 
 // `level`: the TX Available threshold; `start`: the TX Start threshold.
 #[repr(C)]
-#[derive(Drop)]
+#[derive(Clone, Copy)]
 pub struct Sender {
     pub on: bool,
     pub available: bool,
@@ -28,21 +28,21 @@ pub struct Sender {
 }
 
 #[repr(C)]
-#[derive(Drop)]
+#[derive(Clone, Copy)]
 pub struct Outcomes {
     pub sender: Sender,
     pub statuses: Statuses,
 }
 
 #[repr(C)]
-#[derive(Drop)]
+#[derive(Clone, Copy)]
 pub struct Transmit {
     pub fifo: Fifo,
     pub outcomes: Outcomes,
 }
 
 // The transmit side after a success, and how many bytes the wire is told.
-#[derive(Drop)]
+#[derive(Clone, Copy)]
 pub struct Gone {
     pub transmit: Transmit,
     pub n: usize,

@@ -1,3 +1,4 @@
+#![tactic(auto)]
 // What C and Rust call: the public calls of the card, the ID port, the driver and the image check, with every answer in numbers.
 // A code is 0 for done, else the paper's number of the refusal. A value that a refused call does not have is 0.
 

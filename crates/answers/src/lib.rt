@@ -1,3 +1,4 @@
+#![tactic(auto)]
 // The answers of the bench: one line each. The definition is `answers/specs/Answers.antt`.
 ghost use Rattle.std.specs.Prelude.{length, ◌≡◌};
 ghost use Rattle.bench_rules.specs.Answers.{line_of, Says};

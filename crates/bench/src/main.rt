@@ -1,3 +1,4 @@
+#![tactic(auto)]
 // The bench: a script on standard input, an answer a line on standard output.
 use libc::STDIN_FILENO;
 

@@ -1,3 +1,4 @@
+#![tactic(auto)]
 // Plays a script: input is read in pieces, and each line is answered as soon as it is whole.
 use bench_state::{Bench, lines};
 use libc::STDOUT_FILENO;

@@ -1,3 +1,4 @@
+#![tactic(auto)]
 // The bench's text: numbers and bytes as text, which line of a script asks for what, the answers as lines.
 
 // A byte string in hex: how many bytes, or not one.

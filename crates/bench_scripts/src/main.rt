@@ -1,3 +1,4 @@
+#![tactic(auto)]
 // Plays each script file that its arguments name, from power-on: the name, then the answers.
 use libc::STDOUT_FILENO;
 

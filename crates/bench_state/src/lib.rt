@@ -1,3 +1,4 @@
+#![tactic(auto)]
 // The bench's state: what a script works on, and how a line leaves it.
 use bench_rules::Reply;
 use card_rules::{Card, Done};

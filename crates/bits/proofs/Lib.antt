@@ -1,5 +1,4 @@
 -- Laws and worked examples.
 -- laws that several crates cite
-pub mod Lent
 pub mod Tests
 pub mod UpTo

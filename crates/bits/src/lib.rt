@@ -1,3 +1,4 @@
+#![tactic(auto)]
 // Bits, bytes and words of numbers.
 ghost use Rattle.std.specs.Prelude.{◌≡◌, ◌+◌, ◌*◌, ◌≤◌, ◌<◌};
 ghost use Rattle.bits.specs.Bits.{has as has_of, weigh};

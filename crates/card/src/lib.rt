@@ -1,3 +1,4 @@
+#![tactic(auto)]
 // The card: its public calls. Each tests the state that it is handed (refusal 1) and its arguments, refuses with card and memory as they came, or takes the step.
 ghost use Rattle.card_rules.specs.CardContracts as contract;
 

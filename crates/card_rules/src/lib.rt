@@ -1,3 +1,4 @@
+#![tactic(auto)]
 // The card: its registers and Status, power-on, EEPROM commands, the commands, the register map, the steps, and the public calls' answers.
 use port_rules::IdState;
 use receive_rules::Receive;

@@ -1,3 +1,4 @@
+#![tactic(auto)]
 // Long random runs of the public card calls, sensible and senseless. It prints how many calls were done and how many were refused, and a sum over all values read.
 use card_rules::{AfterCall, AfterRead, AfterSuccess, Card, Done, Read, Told};
 use libc::STDOUT_FILENO;

@@ -1,3 +1,4 @@
+#![tactic(auto)]
 // The catalogue at a shell: `catalogue list FILE` and the other commands that `catalogue_text::usage` names.
 use check::same;
 

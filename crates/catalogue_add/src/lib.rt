@@ -1,3 +1,4 @@
+#![tactic(auto)]
 // Adding a version of a card to a catalogue. The changed file is written whole into another lent area, so that the old one
 // stays until the new one is there; a refused call changes no byte.
 mod write;

@@ -1,3 +1,4 @@
+#![tactic(auto)]
 // Makes the calls of the catalogue that its arguments name and prints what each answers, a line each. A call is five
 // words: its name, two operands, the size of the lent area (or most, for as much as a file may have), and the file that
 // has the bytes it is to write; - for none.

@@ -1,3 +1,4 @@
+#![tactic(auto)]
 // Dropping the oldest version of a card: the new file is written whole into another lent area, and the old one stays as it is.
 ghost use Rattle.std.specs.Prelude.{◌≡◌, ◌+◌, ◌-◌, ◌≤◌, length};
 ghost use Rattle.catalogue_rules.specs.Put.{put_at};

@@ -1,3 +1,4 @@
+#![tactic(auto)]
 // Reads a catalogue's file from standard input and prints `sound`, or `refused ` and the number, or that it is too long.
 use catalogue_rules::Judged;
 use libc::{STDIN_FILENO, STDOUT_FILENO};

@@ -1,1 +1,2 @@
+#![tactic(auto)]
 // What a change writes is read as the changed catalogue, and what the lookups show behind it.

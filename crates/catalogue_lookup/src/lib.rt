@@ -1,3 +1,4 @@
+#![tactic(auto)]
 // Looking cards up in a catalogue's file. An image is handed back as a part of the file, without copying.
 // Refusals in the order 15, 16, 17, 18, 19: the file's own 18 and 19 come behind a card that is not there.
 

@@ -1,3 +1,4 @@
+#![tactic(auto)]
 // What is promised of catalogues: the round trips, what a lookup shows, what a change leaves and writes, and how much area suffices.
 ghost use Rattle.catalogue_rules.specs.RoundTrip.{WrittenIsRead, ReadIsWritten, AcceptedIsWellFormed};
 ghost use Rattle.catalogue_rules.specs.Places.{PlacesShow};

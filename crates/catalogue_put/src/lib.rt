@@ -1,3 +1,4 @@
+#![tactic(auto)]
 // Writing fields into a lent area.
 ghost use Rattle.std.specs.Prelude.{◌≡◌, List, [], ◌∷◌, ◌+◌, ◌<◌, ◌≤◌, length};
 ghost use Rattle.catalogue_rules.specs.Field.{field, bytes_of};

@@ -1,3 +1,4 @@
+#![tactic(auto)]
 // A catalogue's file: up to 64 cards, each with one to eight numbered versions of its image.
 // Here a file is judged; `catalogue_rules/specs/Reading.antt` says what a file is read as, and how a catalogue is written.
 pub mod fields; // fields.rt: tagged fields in a lent area: one-byte tag, two-byte length with its low byte first, then the value

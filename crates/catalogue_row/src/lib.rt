@@ -1,3 +1,4 @@
+#![tactic(auto)]
 // Moving today's archive, a row of bare images, into a catalogue, and writing it out again.
 mod images;
 mod latest;

@@ -1,3 +1,4 @@
+#![tactic(auto)]
 // The catalogue: tagged fields, a file's meaning and its check, the round trips, looking cards up, archives, the changes, and what a change writes.
 use refusal::Refusal;
 

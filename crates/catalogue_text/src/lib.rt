@@ -1,3 +1,4 @@
+#![tactic(auto)]
 // What the program says, answers on standard output and messages on standard error, and the words that it reads. Proved safe and
 // ending; what is written is tested.
 ghost use Rattle.std.specs.Prelude.{◌≤◌};

@@ -1,3 +1,4 @@
+#![tactic(auto)]
 // Where a refused file or archive is wrong, looked for again so that a message can say it. Every call takes any bytes
 // and ends; the number that was answered is the caller's.
 pub mod archive;

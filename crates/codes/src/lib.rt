@@ -1,3 +1,4 @@
+#![tactic(auto)]
 // Every answer in numbers, as C and Rust are told it.
 // A code is 0 for done, else the paper's number of the refusal. A value that a refused call does not have is 0.
 

@@ -1,3 +1,4 @@
+#![tactic(auto)]
 // The commands of the Command register.
 ghost use Rattle.std.specs.Prelude.{true};
 ghost use Rattle.transmit_rules.specs.OutcomesView.{Stacked};

@@ -1,3 +1,4 @@
+#![tactic(auto)]
 // The worst cases of a service's stack: a damaged frame that cannot be discarded, and 768 damaged frames of 8 bytes. It writes the accesses used by each.
 use card_rules::Card;
 use driver_rules::Driver;

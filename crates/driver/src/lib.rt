@@ -1,3 +1,4 @@
+#![tactic(auto)]
 // The driver's public calls: open, send, service and hand_up. Each tests the state it is handed, and no refusal changes anything.
 ghost use Rattle.std.specs.Prelude.{◌≡◌, length};
 ghost use Rattle.driver_rules.specs.declared.Answer.TheVariants.{Refused};

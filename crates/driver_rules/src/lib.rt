@@ -1,3 +1,4 @@
+#![tactic(auto)]
 // The driver: calls as trees of accesses, its state, open, send, the items of a service, a whole service, hand_up.
 use card_rules::Card;
 use refusal::Refusal;

@@ -1,3 +1,4 @@
+#![tactic(auto)]
 // Digits: numbers and byte strings are read from text and put into text.
 mod printing;
 mod reading;

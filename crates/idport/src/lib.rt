@@ -1,3 +1,4 @@
+#![tactic(auto)]
 // One card on the ID port: document 01, "Finding cards on one ID port", and the manual's ISA Activation chapter.
 ghost use Rattle.port_rules.specs.Sequence.{TheSequence};
 ghost use Rattle.port_rules.specs.Sound.{EveryStepKeepsSoundness};

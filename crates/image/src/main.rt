@@ -1,3 +1,4 @@
+#![tactic(auto)]
 // Checks the EEPROM image on standard input and prints one line.
 use libc::{STDIN_FILENO, STDOUT_FILENO};
 

@@ -1,3 +1,4 @@
+#![tactic(auto)]
 // Checks each EEPROM image file that its arguments name: the name, and the line of the check.
 use libc::STDOUT_FILENO;
 

@@ -1,3 +1,4 @@
+#![tactic(auto)]
 // An EEPROM image: 128 bytes, 64 words, low byte first; its checksums and its check.
 // No call here asks anything of its caller: past an image's end every byte counts as 0.
 mod one_byte; // one_byte.rt: what the image check is good for: theorems over its definitions

@@ -1,3 +1,4 @@
+#![tactic(auto)]
 // The EEPROM image: its words and bytes, the checksums, the check, and the line that the image program prints.
 use refusal::Refusal;
 

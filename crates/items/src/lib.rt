@@ -1,3 +1,4 @@
+#![tactic(auto)]
 // The items of a service: what is told of a report and of a frame, and the accesses that fetch them.
 
 pub mod fetching; // fetching.rt: the fetch of a good frame, an item of a service

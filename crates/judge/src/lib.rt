@@ -1,3 +1,4 @@
+#![tactic(auto)]
 // What the driver goes by: the tests of its own state, of the words that it reads, and of a packet's length and room; and a packet's
 // bytes and length as they are written.
 ghost use Rattle.std.specs.Prelude.{◌≡◌, ◌≤◌, ◌<◌, get_or};

@@ -1,3 +1,4 @@
+#![tactic(auto)]
 // The cards on one ID port as a lent slice of ID states: a byte written, the port read, the search and the activation of a found card.
 // Each call looks at each card, decides what the accesses carry, and steps each card where it stands. Each contract is that of the call over a bus by value (crate `port`), with the slice for the bus; a refused call leaves the slice as it came.
 ghost use Rattle.port_rules.specs.Lent.{TheSameAsByValue};

@@ -1,3 +1,4 @@
+#![tactic(auto)]
 // Opening: the station address, the filter and masks, and both enables.
 ghost use Rattle.std.specs.Prelude.{◌≤◌};
 ghost use Rattle.card_rules.specs.View.{view, Sound, Stands};

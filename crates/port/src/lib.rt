@@ -1,3 +1,4 @@
+#![tactic(auto)]
 // The cards on one ID port, as a bus by value: a byte written, the port read, the search and the activation of a found card.
 // Each call lends the cards that are there to the call of its name over a slice (crate `lent_port`), which tests and steps them; a refused call returns the bus as it came.
 ghost use Rattle.std.specs.Prelude.{◌≡◌, cond};

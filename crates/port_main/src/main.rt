@@ -1,3 +1,4 @@
+#![tactic(auto)]
 // Three cards on ID port 110h are found, and the second is activated at base number 5. A tag of 8 is refused.
 use idport::fresh;
 use libc::STDOUT_FILENO;

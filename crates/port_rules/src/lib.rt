@@ -1,3 +1,4 @@
+#![tactic(auto)]
 // The ID port: the ID sequence, one card's ID state and its steps, the bit that the cards on one port leave, the search and the activation.
 use refusal::Refusal;
 

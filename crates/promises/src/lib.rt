@@ -1,3 +1,4 @@
+#![tactic(auto)]
 // What is promised of the public calls, of which nothing is known but their contracts. Each statement stands in one file, and the crate that it is named after has the rest.
 ghost use Rattle.over_calls.specs.Refused.{ARefusedCallChangesNothing};
 ghost use Rattle.over_calls.specs.Sends.{SendsOverCalls};

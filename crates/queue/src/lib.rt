@@ -1,3 +1,4 @@
+#![tactic(auto)]
 // The transmit FIFO's memory: the packets written whole, and the packet being written.
 ghost use Rattle.std.specs.Prelude.{◌≡◌, ◌≤◌, length};
 ghost use Rattle.transmit_rules.specs.Queue.{free};

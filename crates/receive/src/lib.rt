@@ -1,3 +1,4 @@
+#![tactic(auto)]
 // The receive side, as functions.
 
 pub mod reading; // reading.rt: what the host reads of the receive side, and the commands that drop frames: the unread bytes, RX Status, RX Complete, RX Free, the data read, RX Discard

@@ -1,3 +1,4 @@
+#![tactic(auto)]
 // The receive side: frames in memory, the wire, what the host reads, soundness.
 
 // `early`: RX Early stands; `told`: it was set for the oldest frame; `read`: the bytes read of the oldest frame.

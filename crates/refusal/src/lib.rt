@@ -1,3 +1,4 @@
+#![tactic(auto)]
 // The refusals: document 01's table "Numbers a call may answer", in its order.
 ghost use Rattle.refusal.specs.RefusalContracts as contract;
 

@@ -1,3 +1,4 @@
+#![tactic(auto)]
 // The card by value: its registers in groups, the Status word, the interrupt line, RX Status and the unread bytes, settle, power-on, and the test of its soundness.
 ghost use Rattle.std.specs.Prelude.{◌≡◌, true, List, ℕ, ◌%◌, ◌≤◌, ◌<◌, length};
 ghost use Rattle.bits.specs.Bits.{weigh};

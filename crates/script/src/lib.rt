@@ -1,3 +1,4 @@
+#![tactic(auto)]
 // A line of a bench script: what it asks for. The definition of the language is `bench_rules/specs/Script.antt`.
 ghost use Rattle.std.specs.Prelude.{length};
 ghost use Rattle.bench_rules.specs.Script.{Means};

@@ -1,3 +1,4 @@
+#![tactic(auto)]
 // Sending: the refusals in their order, the two preamble words and the data.
 ghost use Rattle.std.specs.Prelude.{◌≡◌, ◌≤◌, length};
 ghost use Rattle.card_rules.specs.View.{view, Sound, Stands};

@@ -1,3 +1,4 @@
+#![tactic(auto)]
 // Look, receive, and look again, until an item is found, the budget is short, or so many turns were taken.
 ghost use Rattle.card_rules.specs.View.{view, Sound};
 ghost use Rattle.driver_rules.specs.Talk.{run};

@@ -1,3 +1,4 @@
+#![tactic(auto)]
 // The card's steps, without tests: what the public calls and the driver take for each access and event.
 ghost use Rattle.std.specs.Prelude.{◌≡◌, true, ◌%◌, ◌≤◌, ◌<◌, length};
 ghost use Rattle.port_rules.specs.Sound.{id_sound};

@@ -1,3 +1,4 @@
+#![tactic(auto)]
 // The transmit side of the card: the FIFO and the send outcomes together.
 ghost use Rattle.std.specs.Prelude.{◌≡◌, ◌≤◌, ◌<◌, length};
 ghost use Rattle.transmit_rules.specs.Queue.{free};

@@ -1,3 +1,4 @@
+#![tactic(auto)]
 // The transmit side: the FIFO and the packet that leaves it, the status stack, the sender and what it reports, and the whole together.
 
 // `packets`: how many are whole; `words`: how many have come of the one being written.

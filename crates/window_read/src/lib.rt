@@ -1,3 +1,4 @@
+#![tactic(auto)]
 // The register map: what a word read gives, window by window.
 ghost use Rattle.std.specs.Prelude.{◌≡◌, List, ℕ, ◌+◌, ◌*◌, ◌-◌, ◌%◌, ◌≤◌, ◌<◌};
 ghost use Rattle.bits.specs.Bits.{has, weigh};

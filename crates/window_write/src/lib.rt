@@ -1,3 +1,4 @@
+#![tactic(auto)]
 // The register map: what a write does, window by window. A write covers both bytes of a register, its low byte or its high byte.
 ghost use Rattle.std.specs.Prelude.{◌≡◌, ◌%◌, ◌<◌};
 ghost use Rattle.transmit_rules.specs.OutcomesView.{Stacked};

@@ -2,7 +2,7 @@
 """Plays random scripts on the bench program and on the independent model, and compares every answer.
 Each rx is held to the register too (bench_fuzz.py, judge_rx).
 
-    tests/bench_cross.py target/bin/bench rust/target/release/play [SCRIPTS [LINES]]
+    tests/bench_cross.py crates/bench/out/bench rust/target/release/play [SCRIPTS [LINES]]
 """
 import os
 import subprocess

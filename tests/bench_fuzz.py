@@ -1,7 +1,7 @@
 #!/usr/bin/env python3
 """Plays random scripts, sensible and senseless, on the bench program.
 
-    tests/bench_fuzz.py target/bin/bench [SCRIPTS [SEED]]
+    tests/bench_fuzz.py crates/bench/out/bench [SCRIPTS [SEED]]
 
 It must never fail, answer each line that is not empty and no comment with one line of a form
 that the language has, and answer the same script the same way, in one piece or in many. The word

@@ -1,7 +1,7 @@
 #!/usr/bin/env python3
 """Holds the image program to a second implementation of the image check.
 
-    tests/image_cross.py target/bin/image
+    tests/image_cross.py crates/image/out/image
 
 The check below is written from the prose alone: document 01, "EEPROM image", and document 000 under
 Offset 0Fh and Offset 17h. Every image goes to the program's standard input, and the line that it

@@ -11,7 +11,7 @@ use port_rules::{Found, IdState, Listed};
 use refusal::Refusal;
 
 // What 48 reads give where no card drives.
-const ALL_ONES: u64 = 0x_ffff_ffff_ffff;
+const ALL_ONES: u64 = 0xFFFF_FFFF_FFFF;
 
 // What the cards looked at so far have told.
 #[derive(Clone, Copy)]

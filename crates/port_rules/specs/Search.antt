@@ -37,7 +37,7 @@ module _ {A : Type 0} where
 
 -- forty-eight ones
 abbrev pub all_ones : ℕ
-all_ones = 0x_ffff_ffff_ffff
+all_ones = 0xFFFF_FFFF_FFFF
 
 -- Each round: two zeros, sequence, the address. Forty-eight ones end it; otherwise tag the survivor with the next number from 1, and the same search runs with one tag fewer.
 unfoldable pub rounds : {A : Type 0} → ℕ → (List ℕ → Talk A) → Talk A

@@ -229,7 +229,7 @@ leaves size (f ∷ []) x k =
 leaves size (f ∷ g ∷ fs) x k =
     let p = both (ended f) (in_order (eqb x.receiver.wire 2) (g ∷ fs)) k.order in
     let q = not-coming f p.0 in
-    record { space = omega (arith, k.space); wire = rw q k.wire; order = rw q p.1; read = omega arith; threshold = k.threshold; early = refl }
+    record { space = omega (arith, k.space); wire = rw q k.wire; order = subst (λ (b : Bool). in_order (eqb (cond b 1 x.receiver.wire) 2) (g ∷ fs) ≡ true) (sym q) p.1; read = omega arith; threshold = k.threshold; early = refl }
 
 read_facts : (size : ℕ) (x : Rx) → Kept size x → Kept size (after_read x)
 unfolding after_read

@@ -1,13 +1,11 @@
 #![tactic(auto)]
 // Checks the EEPROM image on standard input and prints one line.
-use libc::{STDIN_FILENO, STDOUT_FILENO};
-
-fn main() {
+fn main(rt: HostRuntime) {
     // One byte more than an image has tells a longer input.
     let mut room = [0u8; 129];
-    let n = io::read_full(STDIN_FILENO, &mut room);
+    let n = host::read_full(&mut rt.stdin(), &mut room);
     let said = image_check::judged(&room[..n]);
     let text = said.bytes;
     let len = said.len;
-    io::write_all(STDOUT_FILENO, &text[..len]);
+    let _ = rt.write_all(&text[..len]);
 }

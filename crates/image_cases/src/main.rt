@@ -1,39 +1,36 @@
 #![tactic(auto)]
 // Checks each EEPROM image file that its arguments name: the name, and the line of the check.
-use libc::STDOUT_FILENO;
-
 // The line of one file.
-fn tell(path: &[u8]) {
-    let fd = os::open_read(path);
-    if fd < 0 {
-        os::fail(path);
-        return;
-    }
+fn tell(rt: &HostRuntime, path: &[u8]) {
+    let mut file = match host::open(rt, path) {
+        Ok(file) => file,
+        Err(why) => {
+            host::fail(rt, path, why);
+            return;
+        }
+    };
     // One byte more than an image has tells a longer file.
     let mut room = [0u8; 129];
-    let n = io::read_full(fd, &mut room);
-    libc::close(fd);
+    let n = host::read_full(&mut file, &mut room);
     let said = image_check::judged(&room[..n]);
     let text = said.bytes;
     let len = said.len;
-    io::write_all(STDOUT_FILENO, path);
-    io::write_all(STDOUT_FILENO, b": ");
-    io::write_all(STDOUT_FILENO, &text[..len]);
+    let _ = rt.write_all(path);
+    let _ = rt.write_all(b": ");
+    let _ = rt.write_all(&text[..len]);
 }
 
 // The line of the file that argument i names.
-fn tell_argument(i: usize) {
-    let mut path = io::buffer();
-    let length = os::arg(i, &mut path);
-    if os::errno() != 0 {
-        os::fail(b"path");
-        return;
+fn tell_argument(rt: &HostRuntime, i: usize) {
+    let mut path = [0u8; 4096];
+    match host::arg(rt, i, &mut path) {
+        Ok(length) => tell(rt, &path[..length]),
+        Err(why) => host::fail(rt, b"path", why),
     }
-    tell(&path[..length]);
 }
 
-fn main() {
-    for i in 1..os::arg_count() {
-        tell_argument(i);
+fn main(rt: HostRuntime) {
+    for i in 1..host::arg_count(&rt) {
+        tell_argument(&rt, i);
     }
 }

@@ -1,0 +1,9 @@
+-- `host::read_full` is safe and ends: the place stays within the room, which keeps its length.
+use Rattle.std.proofs.Common.{length, ◌-◌, ◌≤◌, ◌≡◌}
+use Rattle.host.proofs.read_full.Given as goal
+
+abbrev pub invariant-loop-done : goal.invariant-loop-done
+invariant-loop-done g l = (l.done ≤ length l.room) × (length l.room ≡ length l.initial.room)
+
+abbrev pub decreases-loop-done : goal.decreases-loop-done
+decreases-loop-done g l = length l.room - l.done

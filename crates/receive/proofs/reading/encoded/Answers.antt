@@ -12,8 +12,7 @@ use mir.Val.{SFits, Fits, to_z, of_z}
 use mir.ValLaws.{to_z-of_z}
 use Rattle.bits.proofs.Tests.{never}
 use Rattle.receive_rules.specs.Count.{encoded}
-use Rattle.receive.proofs.reading.encoded.Statement.{statement}
-use Rattle.receive.proofs.reading.encoded.Tie as tie
+use Rattle.receive.proofs.reading.encoded.Goals as goal
 
 small : (z : ℤ) → encoded z < 2048
 small (pos n) = omega arith
@@ -55,20 +54,17 @@ module _ (z : ℤ) (f : SFits w16 z) (h : mag z < 2048) (t : lt_z (to_z w16 (of_
 same : (z : ℤ) → SFits w16 z → mag z < 2048 → lt_z (to_z w16 (of_z w16 z)) (pos 0) ≡ false → to_z w16 (of_z w16 z) ≡ pos (encoded z)
 same z f h t = to_z-of_z w16 z f ∙ plain z h (sym (ap (λ (v : ℤ). lt_z v (pos 0)) (to_z-of_z w16 z f)) ∙ t)
 
-add-result : tie.Need-overflow-add-result
-add-result c = sum_fits c.before.args.count c.before.ranges.count c.before.requires c.if1.true
+pub overflow_add-result : goal.overflow_add-result
+overflow_add-result c = sum_fits c.args.count c.ranges.count c.requires c.if-count-lt0.true
 
-cast-result : tie.Need-overflow-cast-result
-cast-result c = unsigned c.before.args.count _ (whole c.before.args.count c.before.ranges.count c.before.requires c.if1.true)
+pub overflow_cast-result : goal.overflow_cast-result
+overflow_cast-result c = unsigned c.args.count _ (whole c.args.count c.ranges.count c.requires c.if-count-lt0.true)
 
-returns : tie.Need-returns
-returns c = told c.before.args.count _ (whole c.before.args.count c.before.ranges.count c.before.requires c.if1.true)
+pub returns-then-count-lt0 : goal.returns-then-count-lt0
+returns-then-count-lt0 c = told c.args.count _ (whole c.args.count c.ranges.count c.requires c.if-count-lt0.true)
 
-cast-result-2 : tie.Need-overflow-cast-result-2
-cast-result-2 c = unsigned c.before.args.count _ (same c.before.args.count c.before.ranges.count c.before.requires c.if1.false)
+pub overflow_cast-result-2 : goal.overflow_cast-result-2
+overflow_cast-result-2 c = unsigned c.args.count _ (same c.args.count c.ranges.count c.requires c.if-count-lt0.false)
 
-returns-2 : tie.Need-returns-2
-returns-2 c = told c.before.args.count _ (same c.before.args.count c.before.ranges.count c.before.requires c.if1.false)
-
-pub encoded-spec : {M : Type 1} → statement M
-encoded-spec = tie.close (tie.spec add-result cast-result returns cast-result-2 returns-2)
+pub returns : goal.returns
+returns c = told c.args.count _ (same c.args.count c.ranges.count c.requires c.if-count-lt0.false)

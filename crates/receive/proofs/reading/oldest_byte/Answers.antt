@@ -1,5 +1,4 @@
 -- `reading::oldest_byte` meets its contract: the store gives a byte of the oldest frame, and past its end a frame reads 0. Assumes nothing.
-use borrow.Author.Rules.{rules}
 use mathlib.Core.Path.{sym, ◌∙◌}
 use Prim.Native.Nat.{◌≤◌}
 use native.Mathlib.Omega.{arith}
@@ -7,24 +6,20 @@ use lib.Dec.{lit<}
 use lib.ListN.{length}
 use Rattle.receive_rules.proofs.Oldest.{front}
 use Rattle.receive.proofs.Word.{oldest-some, oldest-same, get_d_past}
-use Rattle.receive.proofs.reading.oldest_byte.Statement.{statement}
-use Rattle.receive.proofs.reading.oldest_byte.Tie as tie
+use Rattle.receive.proofs.reading.oldest_byte.Goals as goal
 
-returns : tie.Need-returns
-returns c =
-    let s = c.before.before.before.before.args in
-    let p = c.before.before.before.before.requires in
+pub returns-then-n-i : goal.returns-then-n-i
+returns-then-n-i c =
+    let s = c.args in
+    let p = c.requires in
     let F = front s.size s.count s.ram.now s.dir.now p.0 (λ e. omega arith) in
     let k : length F.bytes ≤ s.i = omega (arith, F.len) in
     (sym (rw (oldest-some s.size s.count s.ram.now s.dir.now p.0 (λ e. omega arith)) (get_d_past F.bytes s.i k)), lit< tt)
 
-returns-2 : tie.Need-returns-2
-returns-2 c =
-    let s = c.before.before.before.before.before.before.args in
-    let p = c.before.before.before.before.before.before.requires in
+pub returns : goal.returns
+returns c =
+    let s = c.args in
+    let p = c.requires in
     let e = oldest-some s.size s.count s.ram.now s.dir.now p.0 (λ e. omega arith) in
     let d = oldest-same s.size s.count s.ram.now s.dir.now p.0 (λ e. omega arith) in
-    (rw e (rw d at (c.wide.ensures.0 ∙ c.before.first_byte.ensures)), c.wide.ensures.1)
-
-pub oldest-byte-spec : {M : Type 1} → statement M
-oldest-byte-spec = tie.close (tie.spec (λ c. search rules) (λ c. search rules) returns (λ c κs. search rules) (λ c κs. search rules) returns-2)
+    (rw e (rw d at (c.wide.ensures.0 ∙ c.first_byte.ensures)), c.wide.ensures.1)

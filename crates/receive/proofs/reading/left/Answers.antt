@@ -1,5 +1,4 @@
 -- `reading::left` meets its contract: a count and a pad are small, so that their sum is the one of integers. Assumes nothing.
-use borrow.Author.Rules.{rules}
 use borrow.Author.Tests.{ltb-true, ltb-false}
 use mathlib.Core.Path.{◌≡◌, sym, ◌∙◌, subst}
 use Prim.Native.Nat.{ℕ, suc, ◌<◌}
@@ -10,12 +9,13 @@ use lib.Signed.{mag}
 use mir.Syntax.{w16}
 use mir.Val.{SFits, to_z, of_z}
 use mir.ValLaws.{to_z_pos, to_z-of_z}
+use mathlib.Core.List.{List}
+use Rattle.receive_rules.specs.declared.Receive.{Receive}
+use Rattle.receive_rules.specs.Reading.{unread_in}
 use Rattle.bits.proofs.Tests.{of_test}
 use Rattle.receive_rules.proofs.Count.{between-small, count-between}
-use Rattle.receive_rules.specs.Reading.{unread_in}
-use Rattle.receive_rules.specs.View.{frames_of, rx_of}
-use Rattle.receive.proofs.reading.left.Statement.{statement}
-use Rattle.receive.proofs.reading.left.Tie as tie
+use Rattle.receive_rules.specs.View.{frames_of, rx_of, Sound}
+use Rattle.receive.proofs.reading.left.Goals as goal
 
 -- a small count and a pad
 module _ (u : ℤ) (p : ℕ) (f : SFits w16 u) (s : mag u < 2048) (l : p < 4) where
@@ -33,23 +33,22 @@ module _ (u : ℤ) (p : ℕ) (f : SFits w16 u) (s : mag u < 2048) (l : p < 4) wh
   whole : to_z w16 (of_z w16 (to_z w16 (of_z w16 u) +ℤ to_z w16 p)) ≡ u +ℤ pos p
   whole = to_z-of_z w16 _ fits ∙ sum u p f s l
 
-pad-requires : tie.Need-pad-requires
-pad-requires c κs = c.before.before.before.requires.packed
+-- the count is small
+few : (size : ℕ) (r : Receive) (ram dir : List ℕ) → Sound size r ram dir → (u : ℤ) → u ≡ unread_in r.receiver.read (frames_of size r.frames ram dir) → mag u < 2048
+few size r ram dir S u e = subst (λ (z : ℤ). mag z < 2048) (sym e) (between-small _ (count-between size (rx_of size r ram dir) S.calm))
 
-few : (o : tie.Start) (u : ℤ) → u ≡ unread_in o.args.r.receiver.read (frames_of o.args.size o.args.r.frames o.args.ram.now o.args.dir.now) → mag u < 2048
-few o u e =
-    let s = o.args in
-    subst (λ (z : ℤ). mag z < 2048) (sym e) (between-small _ (count-between s.size (rx_of s.size s.r s.ram.now s.dir.now) o.requires.calm))
+pub pad-pad-requires : goal.pad-pad-requires
+pad-pad-requires c = c.requires.packed
 
-add-result : tie.Need-overflow-add-result
-add-result c =
-    let o = c.before.before.before.before in
-    fits c.before.unread.result c.pad.result (record { sfits = c.before.unread.type-inv }) (few o c.before.unread.result c.before.unread.ensures) c.pad.ensures.1
+pub overflow_add-result : goal.overflow_add-result
+overflow_add-result c =
+    let s = c.args in
+    let u = c.unread-unread in
+    fits u.result c.pad-pad.result (record { sfits = u.type_inv }) (few s.size s.r s.ram.now s.dir.now c.requires u.result u.ensures) c.pad-pad.ensures.1
 
-returns : tie.Need-returns
+pub returns : goal.returns
 returns c =
-    let o = c.before.before.before.before in
-    whole c.before.unread.result c.pad.result (record { sfits = c.before.unread.type-inv }) (few o c.before.unread.result c.before.unread.ensures) c.pad.ensures.1 ∙ (λ i. c.before.unread.ensures i +ℤ pos (c.pad.ensures.0 i))
-
-pub left-spec : {M : Type 1} → statement M
-left-spec = tie.close (tie.spec (λ c κs. search rules) pad-requires (λ c. search rules) add-result returns)
+    let s = c.args in
+    let u = c.unread-unread in
+    whole u.result c.pad-pad.result (record { sfits = u.type_inv }) (few s.size s.r s.ram.now s.dir.now c.requires u.result u.ensures) c.pad-pad.ensures.1
+    ∙ (λ i. u.ensures i +ℤ pos (c.pad-pad.ensures.0 i))

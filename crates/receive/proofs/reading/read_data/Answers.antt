@@ -1,0 +1,53 @@
+-- `reading::read_data` meets its contract: its tests are the definition's, and where both fail there is a frame that has the two bytes. Assumes nothing.
+use borrow.Author.Tests.{ltb-false}
+use mathlib.Core.Path.{sym, ap, ◌∙◌}
+use mathlib.Core.Bool.{true, false}
+use native.Mathlib.Omega.{arith}
+use lib.IntN.{ℤ, pos}
+use lib.Signed.{lt_z}
+use Rattle.receive_rules.specs.Reading.{data_word, after_read}
+use Rattle.receive_rules.specs.View.{rx_of}
+use Rattle.receive_rules.proofs.Count.{back, beyond_is}
+use Rattle.receive_rules.proofs.Steps.{step_same}
+use Rattle.receive.proofs.Word.{readable-small, readable_there}
+use Rattle.receive.proofs.reading.read_data.Goals as goal
+
+pub returns-then-a : goal.returns-then-a
+unfolding data_word after_read
+returns-then-a c =
+    let s = c.args in
+    (rw c.if-a.true, step_same s.size _ s.ram.now s.dir.now _ c.requires.packed (rw c.if-a.true))
+
+pub returns-then-left-lt2 : goal.returns-then-left-lt2
+unfolding data_word after_read
+returns-then-left-lt2 c =
+    let s = c.args in
+    let l = c.left-left in
+    let t = (sym (ap (λ (v : ℤ). lt_z v (pos 2)) (back l.result l.type_inv ∙ l.ensures)) ∙ c.if-left-lt2.true) in
+    (rw (c.if-a.false, t), step_same s.size _ s.ram.now s.dir.now _ c.requires.packed (rw (c.if-a.false, t)))
+
+pub overflow_add-end : goal.overflow_add-end
+overflow_add-end c =
+    let s = c.args in
+    let l = c.left-left in
+    omega (arith, (ltb-false _ _ (sym (beyond_is ((rx_of c.args.size c.args.r c.args.ram.now c.args.dir.now))) ∙ ((sym (ap (λ (v : ℤ). lt_z v (pos 2)) (back l.result l.type_inv ∙ l.ensures)) ∙ c.if-left-lt2.false)))), readable-small s.size s.r.frames s.ram.now s.dir.now c.requires.packed)
+
+pub oldest_byte-low-requires : goal.oldest_byte-low-requires
+oldest_byte-low-requires c =
+    let s = c.args in
+    let l = c.left-left in
+    (c.requires.packed, readable_there s.size s.r.frames s.r.receiver.read s.ram.now s.dir.now ((ltb-false _ _ (sym (beyond_is ((rx_of c.args.size c.args.r c.args.ram.now c.args.dir.now))) ∙ ((sym (ap (λ (v : ℤ). lt_z v (pos 2)) (back l.result l.type_inv ∙ l.ensures)) ∙ c.if-left-lt2.false))))))
+
+pub oldest_byte-high-requires : goal.oldest_byte-high-requires
+oldest_byte-high-requires c =
+    let s = c.args in
+    let l = c.left-left in
+    (c.requires.packed, readable_there s.size s.r.frames s.r.receiver.read s.ram.now s.dir.now ((ltb-false _ _ (sym (beyond_is ((rx_of c.args.size c.args.r c.args.ram.now c.args.dir.now))) ∙ ((sym (ap (λ (v : ℤ). lt_z v (pos 2)) (back l.result l.type_inv ∙ l.ensures)) ∙ c.if-left-lt2.false))))))
+
+pub returns : goal.returns
+unfolding data_word after_read
+returns c =
+    let s = c.args in
+    let l = c.left-left in
+    let t = (sym (ap (λ (v : ℤ). lt_z v (pos 2)) (back l.result l.type_inv ∙ l.ensures)) ∙ c.if-left-lt2.false) in
+    (rw (c.if-a.false, t) (omega (arith, c.oldest_byte-low.ensures.0, c.oldest_byte-high.ensures.0)), step_same s.size _ s.ram.now s.dir.now _ c.requires.packed (rw (c.if-a.false, t)))

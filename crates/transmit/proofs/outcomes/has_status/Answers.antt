@@ -2,11 +2,7 @@
 use mathlib.Core.Path.{sym}
 use borrow.Author.Rules.{rules}
 use Rattle.transmit_rules.proofs.StackEntries.{some_of}
-use Rattle.transmit.proofs.outcomes.has_status.Statement.{statement}
-use Rattle.transmit.proofs.outcomes.has_status.Tie as tie
+use Rattle.transmit.proofs.outcomes.has_status.Goals as goal
 
-returns : tie.Need-returns
+pub returns : goal.returns
 returns c = let s = c.args.o.statuses in sym (some_of s.entries s.count (search rules))
-
-pub has-status-spec : {M : Type 1} → statement M
-has-status-spec = tie.close (tie.spec returns)

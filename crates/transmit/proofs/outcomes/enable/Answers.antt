@@ -4,15 +4,11 @@ use borrow.Author.Rules.{rules}
 use lib.ListN.{length}
 use Rattle.transmit_rules.proofs.StackEntries.{stack-length}
 use Rattle.transmit_rules.specs.Outcome as outcome
-use Rattle.transmit.proofs.outcomes.enable.Statement.{statement}
-use Rattle.transmit.proofs.outcomes.enable.Tie as tie
+use Rattle.transmit.proofs.outcomes.enable.Goals as goal
 
-returns : tie.Need-returns
+pub returns : goal.returns
 unfolding outcome.enable
 returns c =
-    let s = c.before.before.args.o.statuses in
+    let s = c.args.o.statuses in
     let len : length s.entries ≡ 31 = search rules in
-    record { tells = rw (stack-length s len c.before.before.requires); stacked = c.before.before.requires }
-
-pub enable-spec : {M : Type 1} → statement M
-enable-spec = tie.close (tie.spec returns)
+    record { tells = rw (stack-length s len c.requires); stacked = c.requires }

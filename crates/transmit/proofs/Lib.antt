@@ -1,2 +1,0 @@
--- What the walks over the lent status stack cite.
-pub mod InPlace

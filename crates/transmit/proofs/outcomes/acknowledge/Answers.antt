@@ -1,0 +1,19 @@
+-- `outcomes::acknowledge` meets its contract: its test is the definition's. Assumes nothing.
+use mathlib.Core.Path.{◌≡◌, refl}
+use mathlib.Core.Bool.{Bool, true, false, ◌&&◌, not}
+use Rattle.transmit.proofs.outcomes.acknowledge.Goals as goal
+
+cleared : (named was : Bool) → (named && was) ≡ true → (not named && was) ≡ false
+cleared true was h = refl
+cleared false was h = cc
+
+kept : (named was : Bool) → (named && was) ≡ false → (not named && was) ≡ was
+kept true was h = cc
+kept false was h = refl
+
+pub returns-then-cleared : goal.returns-then-cleared
+returns-then-cleared c =
+    let s = c.args.o.sender in record { tells = rw (cleared c.args.named s.available c.if-cleared.true, c.if-cleared.true); stacked = c.requires }
+
+pub returns : goal.returns
+returns c = let s = c.args.o.sender in record { tells = rw (kept c.args.named s.available c.if-cleared.false, c.if-cleared.false); stacked = c.requires }

@@ -1,0 +1,8 @@
+-- `outcomes::settle_available` meets its contract: its formula is the definition's. Assumes nothing.
+use mathlib.Core.Path.{refl}
+use Rattle.transmit_rules.specs.Outcome.{due}
+use Rattle.transmit.proofs.outcomes.settle_available.Goals as goal
+
+pub returns : goal.returns
+unfolding due
+returns c = record { tells = refl; stacked = c.requires }

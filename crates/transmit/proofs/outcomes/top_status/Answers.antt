@@ -1,0 +1,11 @@
+-- `outcomes::top_status` meets its contract: the first entry is the oldest. Assumes nothing.
+use mathlib.Core.Path.{sym}
+use borrow.Author.Rules.{rules}
+use Rattle.transmit_rules.proofs.StackEntries.{top-none, top-some}
+use Rattle.transmit.proofs.outcomes.top_status.Goals as goal
+
+pub returns-then-s-eq0 : goal.returns-then-s-eq0
+returns-then-s-eq0 c = let s = c.args.o.statuses in sym (top-none s.entries s.count c.if-s-eq0.true)
+
+pub returns : goal.returns
+returns c = let s = c.args.o.statuses in sym (top-some s.entries s.count (search rules) c.if-s-eq0.false)

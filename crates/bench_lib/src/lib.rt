@@ -1,7 +1,9 @@
 #![tactic(auto)]
 // Plays a script: input is read in pieces, and each line is answered as soon as it is whole.
+ghost use Rattle.std.specs.Prelude.{◌≤◌, length};
+
 use bench_state::{Bench, lines};
-use libc::STDOUT_FILENO;
+use std::io::Read;
 
 mod driver_lines; // driver_lines.rt: the driver's calls
 mod session; // session.rt: one line of a script
@@ -14,12 +16,13 @@ pub struct Playing {
 }
 
 // An answer is written.
-fn tell(text: &[u8; 4096], len: usize) {
-    io::write_all(STDOUT_FILENO, lines::front(text, len));
+fn tell(rt: &HostRuntime, text: &[u8; 4096], len: usize) {
+    let _ = rt.write_all(lines::front(text, len));
 }
 
 // A whole line is answered.
 fn answered(
+    rt: &HostRuntime,
     ram: &mut [u8; 8192],
     dir: &mut [u16; 1110],
     line: &[u8],
@@ -28,19 +31,36 @@ fn answered(
 ) -> Bench {
     let n = lines::length_of(line, count);
     if n > 8192 {
-        io::write_all(STDOUT_FILENO, b"what?\n");
+        let _ = rt.write_all(b"what?\n");
         return b;
     }
     let mut text = [0u8; 4096];
     let done = session::step(ram, dir, &mut text, b, lines::front(line, n));
     let next = done.bench;
     let len = done.len;
-    tell(&text, len);
+    tell(rt, &text, len);
     next
+}
+
+// Where the next newline stands from a place on; the end where there is none.
+fn newline(piece: &[u8], from: usize) -> usize
+    requires { from ≤ length piece.now }
+    ensures low { from ≤ result }
+    ensures high { result ≤ length piece.now }
+{
+    let mut at = from;
+    while at < piece.len() {
+        if piece[at] == b'\n' {
+            return at;
+        }
+        at = at + 1;
+    }
+    at
 }
 
 // A piece of input: every line that it makes whole is answered.
 fn feed(
+    rt: &HostRuntime,
     ram: &mut [u8; 8192],
     dir: &mut [u16; 1110],
     line: &mut [u8; 8193],
@@ -51,12 +71,12 @@ fn feed(
     let mut count = p.count;
     let mut at: usize = 0;
     while at < piece.len() {
-        let end = bytes::scan::find(piece, at, piece.len(), b'\n');
+        let end = newline(piece, at);
         count = lines::append(line, count, &piece[at..end]);
         if end >= piece.len() {
             break;
         }
-        bench = answered(ram, dir, line, bench, count);
+        bench = answered(rt, ram, dir, line, bench, count);
         count = 0;
         at = end + 1;
     }
@@ -74,40 +94,44 @@ pub struct Played {
 }
 
 // Reads a piece and plays it.
-fn turn(
-    fd: i32,
+fn turn<R: Read>(
+    rt: &HostRuntime,
+    from: &mut R,
     ram: &mut [u8; 8192],
     dir: &mut [u16; 1110],
     line: &mut [u8; 8193],
     p: Playing,
 ) -> Played {
-    let mut piece = io::buffer();
-    let got = libc::read(fd, &mut piece);
-    if got <= 0 {
-        return Played {
+    let mut piece = [0u8; 4096];
+    match from.read(&mut piece) {
+        Ok(n) if 0 < n => Played {
+            playing: feed(rt, ram, dir, line, p, &piece[..n]),
+            more: true,
+        },
+        _ => Played {
             playing: p,
             more: false,
-        };
-    }
-    let n = io::count(got, &piece);
-    let next = feed(ram, dir, line, p, &piece[..n]);
-    Played {
-        playing: next,
-        more: true,
+        },
     }
 }
 
 // A last line without a newline counts.
-fn last(ram: &mut [u8; 8192], dir: &mut [u16; 1110], line: &[u8; 8193], p: Playing) {
+fn last(
+    rt: &HostRuntime,
+    ram: &mut [u8; 8192],
+    dir: &mut [u16; 1110],
+    line: &[u8; 8193],
+    p: Playing,
+) {
     let bench = p.bench;
     let count = p.count;
     if count > 0 {
-        answered(ram, dir, line, bench, count);
+        answered(rt, ram, dir, line, bench, count);
     }
 }
 
-// Plays the script that a file descriptor gives, from a power-on card of zero words on. A proved loop has to end, and nothing says that input does: so it counts its turns down, from a number that no run uses up.
-pub fn play(fd: i32) {
+// Plays the script that a reader gives, from a power-on card of zero words on. A proved loop has to end, and nothing says that input does: so it counts its turns down, from a number that no run uses up.
+pub fn play<R: Read>(rt: &HostRuntime, from: &mut R) {
     let mut ram = [0u8; 8192];
     let mut dir = [0u16; 1110];
     let mut line = [0u8; 8193];
@@ -117,7 +141,7 @@ pub fn play(fd: i32) {
     };
     let mut turns = u64::MAX;
     while turns > 0 {
-        let t = turn(fd, &mut ram, &mut dir, &mut line, p);
+        let t = turn(rt, from, &mut ram, &mut dir, &mut line, p);
         let next = t.playing;
         p = next;
         if !t.more {
@@ -125,5 +149,5 @@ pub fn play(fd: i32) {
         }
         turns -= 1;
     }
-    last(&mut ram, &mut dir, &line, p);
+    last(rt, &mut ram, &mut dir, &line, p);
 }

@@ -1,34 +1,32 @@
 #![tactic(auto)]
 // Plays each script file that its arguments name, from power-on: the name, then the answers.
-use libc::STDOUT_FILENO;
 
 // One script.
-fn tell(path: &[u8]) {
-    let fd = os::open_read(path);
-    if fd < 0 {
-        os::fail(path);
-        return;
-    }
-    io::write_all(STDOUT_FILENO, b"== ");
-    io::write_all(STDOUT_FILENO, path);
-    io::write_all(STDOUT_FILENO, b"\n");
-    bench_lib::play(fd);
-    libc::close(fd);
+fn tell(rt: &HostRuntime, path: &[u8]) {
+    let mut file = match host::open(rt, path) {
+        Ok(file) => file,
+        Err(why) => {
+            host::fail(rt, path, why);
+            return;
+        }
+    };
+    let _ = rt.write_all(b"== ");
+    let _ = rt.write_all(path);
+    let _ = rt.write_all(b"\n");
+    bench_lib::play(rt, &mut file);
 }
 
 // The script that argument i names.
-fn tell_argument(i: usize) {
-    let mut path = io::buffer();
-    let length = os::arg(i, &mut path);
-    if os::errno() != 0 {
-        os::fail(b"path");
-        return;
+fn tell_argument(rt: &HostRuntime, i: usize) {
+    let mut path = [0u8; 4096];
+    match host::arg(rt, i, &mut path) {
+        Ok(length) => tell(rt, &path[..length]),
+        Err(why) => host::fail(rt, b"path", why),
     }
-    tell(&path[..length]);
 }
 
-fn main() {
-    for i in 1..os::arg_count() {
-        tell_argument(i);
+fn main(rt: HostRuntime) {
+    for i in 1..host::arg_count(&rt) {
+        tell_argument(&rt, i);
     }
 }

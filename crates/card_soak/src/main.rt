@@ -1,7 +1,7 @@
 #![tactic(auto)]
 // Long random runs of the public card calls, sensible and senseless. It prints how many calls were done and how many were refused, and a sum over all values read.
 use card_rules::{AfterCall, AfterRead, AfterSuccess, Card, Done, Read, Told};
-use libc::STDOUT_FILENO;
+use std::io;
 
 // The next of a row of pseudo-random numbers.
 fn next(x: u64) -> u64 {
@@ -175,7 +175,7 @@ fn awaken(ram: &[u8; 8192], dir: &[u16; 1110], b: Bench) -> Bench {
     called(card::seat(ram, dir, c, id), b.tally)
 }
 
-fn main() {
+fn main(rt: HostRuntime) -> io::Result<()> {
     let mut ram = [0u8; 8192];
     let mut dir = [0u16; 1110];
     let mut out = [0u8; 1792];
@@ -198,11 +198,8 @@ fn main() {
         i += 1;
     }
     let tally = b.tally;
-    io::write_all(STDOUT_FILENO, b"done ");
-    io::print_decimal(STDOUT_FILENO, tally.done);
-    io::write_all(STDOUT_FILENO, b"\nrefused ");
-    io::print_decimal(STDOUT_FILENO, tally.refused);
-    io::write_all(STDOUT_FILENO, b"\nsum ");
-    io::print_decimal(STDOUT_FILENO, tally.sum);
-    io::write_all(STDOUT_FILENO, b"\n");
+    let done = tally.done;
+    let refused = tally.refused;
+    let sum = tally.sum;
+    println!(rt; "done {done}\nrefused {refused}\nsum {sum}")
 }

@@ -1,7 +1,7 @@
 #![tactic(auto)]
 // Reads a catalogue's file from standard input and prints `sound`, or `refused ` and the number, or that it is too long.
 use catalogue_rules::Judged;
-use libc::{STDIN_FILENO, STDOUT_FILENO};
+use std::io::Read;
 
 // The largest file that is read, as the program `catalogue` has it.
 const ROOM: usize = 262144;
@@ -16,30 +16,31 @@ fn two(n: u8) -> [u8; 2] {
     [b'0' + high, b'0' + low]
 }
 
-fn say(judged: Judged) {
+fn say(rt: &HostRuntime, judged: Judged) {
     match judged {
         Judged::Sound {
             cards: _,
             fields: _,
         } => {
-            io::write_all(STDOUT_FILENO, b"sound\n");
+            let _ = rt.write_all(b"sound\n");
         }
         Judged::Refused(why) => {
             let digits = two(refusal::number(why));
-            io::write_all(STDOUT_FILENO, b"refused ");
-            io::write_all(STDOUT_FILENO, &digits);
-            io::write_all(STDOUT_FILENO, b"\n");
+            let _ = rt.write_all(b"refused ");
+            let _ = rt.write_all(&digits);
+            let _ = rt.write_all(b"\n");
         }
     }
 }
 
-fn main() {
+fn main(rt: HostRuntime) {
     let mut room = [0u8; ROOM];
-    let n = io::read_full(STDIN_FILENO, &mut room);
+    let mut input = rt.stdin();
+    let n = host::read_full(&mut input, &mut room);
     let mut next = [0u8; 1];
-    if 0 < libc::read(STDIN_FILENO, &mut next) {
-        io::write_all(STDOUT_FILENO, b"larger than 262144 bytes\n");
+    if let Ok(1) = input.read(&mut next) {
+        let _ = rt.write_all(b"larger than 262144 bytes\n");
         return;
     }
-    say(catalogue_read::check(&room[..n]));
+    say(&rt, catalogue_read::check(&room[..n]));
 }

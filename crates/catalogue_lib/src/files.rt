@@ -1,9 +1,12 @@
 // Files by name: read whole, and replaced whole; - is standard input or output. What fails is said on standard error.
-ghost use Rattle.std.specs.Prelude.{◌≡◌, ◌+◌, ◌≤◌, length};
-ghost use Rattle.io.specs.Counts.{IsPrefixLen};
+ghost use Rattle.std.specs.Prelude.{◌≡◌, ◌+◌, ◌<◌, ◌≤◌, length, slice_index};
 
 use crate::file_mode;
-use libc::STDIN_FILENO;
+use std::fs::{File, OpenOptions, Permissions};
+use std::io::{Error, ErrorKind, Read, Write};
+use std::os::unix::fs::PermissionsExt;
+use std::random::RandomSource;
+use std::{fs, io};
 
 // The largest file that is read or written. 64 cards with 8 versions each take 70,213 bytes; the rest is for unknown fields.
 const ROOM: usize = 262144;
@@ -23,62 +26,87 @@ pub struct Got {
     pub more: bool,
 }
 
+// The same before a failure is said: what one byte more gave.
+#[derive(Clone, Copy)]
+struct Taken {
+    len: usize,
+    next: io::Result<usize>,
+}
+
 // Reads as much as the room holds. One byte more tells a read that failed, a folder's too, and a file that goes on.
-fn take(fd: i32, room: &mut [u8]) -> Got
-    ensures { IsPrefixLen result.len room.new }
+fn take<R: Read>(from: &mut R, room: &mut [u8]) -> Taken
+    ensures { result.len ≤ length room.new }
 {
-    let n = io::read_full(fd, room);
+    let len = host::read_full(from, room);
     let mut next = [0u8; 1];
-    let rest = libc::read(fd, &mut next);
-    Got {
-        ok: rest >= 0,
-        len: n,
-        more: 0 < rest,
+    Taken {
+        len,
+        next: from.read(&mut next),
     }
 }
 
-// The same of standard input.
-fn take_input(room: &mut [u8]) -> Got
-    ensures { IsPrefixLen result.len room.new }
+fn got(taken: Taken) -> Got
+    ensures { result.len ≡ taken.len }
 {
-    let got = take(STDIN_FILENO, room);
-    if !got.ok {
-        os::fail(b"standard input");
+    match taken.next {
+        Ok(next) => Got {
+            ok: true,
+            len: taken.len,
+            more: 0 < next,
+        },
+        Err(_) => Got {
+            ok: false,
+            len: taken.len,
+            more: false,
+        },
     }
-    got
+}
+
+// Nothing was read.
+fn nothing() -> Got
+    ensures { result.len ≡ 0 }
+{
+    Got {
+        ok: false,
+        len: 0,
+        more: false,
+    }
+}
+
+// The same as `take`, and says what failed.
+fn take_of<R: Read>(rt: &HostRuntime, what: &[u8], from: &mut R, room: &mut [u8]) -> Got
+    ensures { result.len ≤ length room.new }
+{
+    let taken = take(from, room);
+    if let Err(why) = taken.next {
+        host::fail(rt, what, why);
+    }
+    got(taken)
 }
 
 // Reads the start of a file, as much as the room holds; - is standard input.
-pub fn read_start(path: &[u8], room: &mut [u8]) -> Got
-    ensures { IsPrefixLen result.len room.new }
+pub fn read_start(rt: &HostRuntime, path: &[u8], room: &mut [u8]) -> Got
+    ensures { result.len ≤ length room.new }
 {
     if catalogue_text::is_dash(path) {
-        return take_input(room);
+        return take_of(rt, b"standard input", &mut rt.stdin(), room);
     }
-    let fd = os::open_read(path);
-    if fd < 0 {
-        os::fail(path);
-        return Got {
-            ok: false,
-            len: 0,
-            more: false,
-        };
+    match host::open(rt, path) {
+        Ok(mut file) => take_of(rt, path, &mut file, room),
+        Err(why) => {
+            host::fail(rt, path, why);
+            nothing()
+        }
     }
-    let got = take(fd, room);
-    if !got.ok {
-        os::fail(path);
-    }
-    libc::close(fd);
-    got
 }
 
 // Reads a whole file. One that the room does not hold is refused.
-pub fn read(path: &[u8], room: &mut [u8]) -> Got
-    ensures { IsPrefixLen result.len room.new }
+pub fn read(rt: &HostRuntime, path: &[u8], room: &mut [u8]) -> Got
+    ensures { result.len ≤ length room.new }
 {
-    let got = read_start(path, room);
+    let got = read_start(rt, path, room);
     if got.more {
-        catalogue_text::larger(path, room.len());
+        catalogue_text::larger(rt, path, room.len());
         return Got {
             ok: false,
             len: got.len,
@@ -89,30 +117,23 @@ pub fn read(path: &[u8], room: &mut [u8]) -> Got
 }
 
 // Looks into the start of a file that may be missing, and says nothing.
-pub fn peek(path: &[u8], room: &mut [u8]) -> Got
-    ensures { IsPrefixLen result.len room.new }
+pub fn peek(rt: &HostRuntime, path: &[u8], room: &mut [u8]) -> Got
+    ensures { result.len ≤ length room.new }
 {
-    let fd = os::open_read(path);
-    if fd < 0 {
-        return Got {
-            ok: false,
-            len: 0,
-            more: false,
-        };
+    match host::open(rt, path) {
+        Ok(mut file) => got(take(&mut file, room)),
+        Err(_) => nothing(),
     }
-    let got = take(fd, room);
-    libc::close(fd);
-    got
 }
 
 // Writes a whole file, - to standard output, and answers whether it was written.
-pub fn put(path: &[u8], bytes: &[u8]) -> bool {
+pub fn put(rt: &HostRuntime, path: &[u8], bytes: &[u8]) -> bool {
     if catalogue_text::is_dash(path) {
-        let whole = catalogue_text::tell(bytes);
-        catalogue_text::told(whole);
-        return whole;
+        let whole = catalogue_text::tell(rt, bytes);
+        catalogue_text::told(rt, whole);
+        return whole.is_ok();
     }
-    replace(path, bytes)
+    replace(rt, path, bytes)
 }
 
 // The longest path that leaves room for a tail of seven bytes in what the system takes, 4,095.
@@ -123,149 +144,196 @@ pub fn with_tail(path: &[u8], tail: &[u8]) -> [u8; 4096]
     requires { length path.now + length tail.now ≤ 4095 }
     ensures { 4096 ≡ length result }
 {
-    let mut name = io::buffer();
-    let end = bytes::copy(path, &mut name);
-    bytes::copy(tail, &mut name[end..]);
+    let mut name = [0u8; 4096];
+    let end = path.len() + tail.len();
+    name[..path.len()].copy_from_slice(path);
+    name[path.len()..end].copy_from_slice(tail);
     name
 }
 
+// The bytes before the zero that ends a name.
+fn ended(name: &[u8; 4096]) -> &[u8]
+    requires { slice_index name.now 4095 ≡ 0 }
+{
+    let mut n = 0;
+    while name[n] != 0 {
+        n = n + 1;
+    }
+    &name[..n]
+}
+
 // Whether a path may be written, so that a rename takes the place of a file or of nothing. Says why not.
-pub fn may_be_written(path: &[u8]) -> bool
+pub fn may_be_written(rt: &HostRuntime, path: &[u8]) -> bool
     requires { length path.now ≤ 4088 }
 {
-    if is_link(path) {
-        catalogue_text::link(path);
+    if is_link(rt, path) {
+        catalogue_text::link(rt, path);
         return false;
     }
-    if !may_be_replaced(path) {
-        os::fail(path);
+    if let Err(why) = may_be_replaced(rt, path) {
+        host::fail(rt, path, why);
         return false;
     }
     true
 }
 
-// Whether the path is a symbolic link, which a rename would take the place of.
-fn is_link(path: &[u8]) -> bool
+// Whether the path is a symbolic link, which a rename would take the place of. One whose text std does not hand on is one too.
+fn is_link(rt: &HostRuntime, path: &[u8]) -> bool
     requires { length path.now ≤ 4088 }
 {
     let mut name = with_tail(path, b"");
     name[4095] = 0;
-    let mut text = [0u8; 1];
-    libc::readlink(&name, &mut text) >= 0
+    let Ok(text) = host::name(ended(&name)) else {
+        return false;
+    };
+    match fs::read_link(rt, text) {
+        Ok(_) => true,
+        Err(why) => why.raw_os_error().is_none(),
+    }
 }
 
-// Whether the path is free, or a file that may be written and flushed; so no folder, pipe or /dev/null. Where not, errno
+// Whether the path is free, or a file that may be written and flushed; so no folder, pipe or /dev/null. Where not, the error
 // says why.
-fn may_be_replaced(path: &[u8]) -> bool {
-    let fd = os::open_update(path);
-    if fd < 0 {
-        return (os::errno() == libc::ENOENT) & (path.len() != 0);
+fn may_be_replaced(rt: &HostRuntime, path: &[u8]) -> io::Result<()> {
+    let name = host::name(path)?;
+    match OpenOptions::new().read(true).write(true).open(rt, name) {
+        Ok(file) => file.sync_all(),
+        Err(why) if why.kind() == ErrorKind::NotFound && path.len() != 0 => Ok(()),
+        Err(why) => Err(why),
     }
-    let flushed = libc::fsync(fd);
-    libc::close(fd);
-    flushed == 0
 }
 
 // Writes the bytes to a temporary file in the same folder, flushes it to disk and renames it over the path:
 // a crash leaves the old or the new file whole. Answers whether it was done.
-fn replace(path: &[u8], bytes: &[u8]) -> bool {
+fn replace(rt: &HostRuntime, path: &[u8], bytes: &[u8]) -> bool {
     if LONGEST < path.len() {
-        catalogue_text::too_long(path);
+        catalogue_text::too_long(rt, path);
         return false;
     }
-    if !may_be_written(path) {
+    if !may_be_written(rt, path) {
         return false;
     }
     let mut name = with_tail(path, b".XXXXXX");
     let end = path.len() + 7;
-    write_over(path, &mut name[..end], bytes)
+    if let Err(why) = write_over(rt, path, &mut name[..end], bytes) {
+        host::fail(rt, path, why);
+        return false;
+    }
+    true
 }
 
 // The same, with the temporary file's name, which ends in XXXXXX.
-fn write_over(path: &[u8], name: &mut [u8], bytes: &[u8]) -> bool {
-    let fd = create(name);
-    if fd < 0 {
-        os::fail(path);
-        return false;
+fn write_over(rt: &HostRuntime, path: &[u8], name: &mut [u8], bytes: &[u8]) -> io::Result<()> {
+    let file = create_temp(rt, name)?;
+    let done = filled_and_renamed(rt, path, file, name, bytes);
+    if done.is_err() {
+        let _ = remove(rt, name);
+        return done;
     }
-    if !is_filled(path, fd, bytes) {
-        os::fail(path);
-        libc::close(fd);
-        os::unlink(name);
-        return false;
-    }
-    libc::close(fd);
-    if os::rename(name, path) < 0 {
-        os::fail(path);
-        os::unlink(name);
-        return false;
-    }
-    flush_folder(path);
-    true
+    flush_folder(rt, path);
+    Ok(())
+}
+
+fn filled_and_renamed(
+    rt: &HostRuntime,
+    path: &[u8],
+    mut file: File,
+    name: &[u8],
+    bytes: &[u8],
+) -> io::Result<()> {
+    fill(rt, path, &mut file, bytes)?;
+    drop(file);
+    fs::rename(rt, host::name(name)?, host::name(path)?)
 }
 
 // Gives the new file the mode of the one at the path, its nine bits of permission; where none is there, there is nothing to
 // keep.
-fn keeps_mode(path: &[u8], fd: i32) -> bool {
-    let old = os::open_read(path);
-    if old < 0 {
-        return os::errno() == libc::ENOENT;
-    }
-    let mode = file_mode::mode_of(old);
-    libc::close(old);
+fn keep_mode(rt: &HostRuntime, path: &[u8], file: &File) -> io::Result<()> {
+    let old = match host::open(rt, path) {
+        Ok(old) => old,
+        Err(why) if why.kind() == ErrorKind::NotFound => return Ok(()),
+        Err(why) => return Err(why),
+    };
+    let mode = file_mode::mode_of(&old);
     if mode == file_mode::UNKNOWN {
-        return false;
+        return Err(Error::other("the system does not tell its mode"));
     }
-    libc::fchmod(fd, mode % 512) == 0
+    file.set_permissions(Permissions::from_mode(mode % 512))
 }
 
 // Settles the mode before a byte is in the file, writes the bytes and flushes them to disk.
-fn is_filled(path: &[u8], fd: i32, bytes: &[u8]) -> bool {
-    if !keeps_mode(path, fd) {
-        return false;
-    }
-    if !io::write_all(fd, bytes) {
-        return false;
-    }
-    libc::fsync(fd) == 0
+fn fill(rt: &HostRuntime, path: &[u8], file: &mut File, bytes: &[u8]) -> io::Result<()> {
+    keep_mode(rt, path, file)?;
+    file.write_all(bytes)?;
+    file.sync_all()
 }
 
-// Makes the temporary file. mkstemp finds a name that is free, but asks for the mode 0600; made anew, the file has the mode of any
-// new file.
-fn create(name: &mut [u8]) -> i32 {
-    let fd = os::create_temp(name);
-    if fd < 0 {
-        return fd;
+// Makes a file that no one else has made, with the mode of any new file.
+pub fn create(rt: &HostRuntime, name: &[u8]) -> io::Result<File> {
+    OpenOptions::new()
+        .write(true)
+        .create_new(true)
+        .open(rt, host::name(name)?)
+}
+
+pub fn remove(rt: &HostRuntime, name: &[u8]) -> io::Result<()> {
+    fs::remove_file(rt, host::name(name)?)
+}
+
+// How many names are tried for a temporary file, as often as mkstemp does.
+const NAMES: usize = 238328;
+
+// Makes the temporary file, under a name that is free: letters and digits that chance picks take the place of the name's last six
+// bytes.
+fn create_temp(rt: &HostRuntime, name: &mut [u8]) -> io::Result<File> {
+    for _ in 0..NAMES {
+        draw_tail(rt, name)?;
+        match create(rt, name) {
+            Err(why) if why.kind() == ErrorKind::AlreadyExists => {}
+            made => return made,
+        }
     }
-    libc::close(fd);
-    if os::unlink(name) < 0 {
-        return -1;
+    create(rt, name)
+}
+
+// Puts six letters and digits at a name's end.
+fn draw_tail(rt: &HostRuntime, name: &mut [u8]) -> io::Result<()> {
+    let mut drawn = [0u8; 6];
+    rt.fill_bytes(&mut drawn)?;
+    for (place, byte) in name.iter_mut().rev().zip(drawn) {
+        *place = letter(byte);
     }
-    os::create(name)
+    Ok(())
+}
+
+// One of 62 letters and digits.
+fn letter(drawn: u8) -> u8 {
+    match drawn % 62 {
+        n @ 0..=25 => b'a' + n,
+        n @ 26..=51 => b'A' + (n - 26),
+        n => b'0' + (n - 52),
+    }
 }
 
 // Flushes the folder that a file stands in, so that the new name lasts too. Not every kind of file system can.
-fn flush_folder(path: &[u8]) {
+fn flush_folder(rt: &HostRuntime, path: &[u8]) {
     let n = folder(path);
     if n == 0 {
-        flush(b".");
+        flush(rt, b".");
         return;
     }
-    flush(&path[..n]);
+    flush(rt, &path[..n]);
 }
 
-fn flush(folder: &[u8]) {
-    let fd = os::open_read(folder);
-    if fd < 0 {
-        return;
+fn flush(rt: &HostRuntime, folder: &[u8]) {
+    if let Ok(open) = host::open(rt, folder) {
+        let _ = open.sync_all();
     }
-    libc::fsync(fd);
-    libc::close(fd);
 }
 
 // How many bytes of a path name its folder, the last slash among them.
 fn folder(path: &[u8]) -> usize
-    ensures { IsPrefixLen result path.now }
+    ensures { result ≤ length path.now }
 {
     let mut n = path.len();
     while 0 < n {

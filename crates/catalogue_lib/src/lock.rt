@@ -1,55 +1,56 @@
 // A lock beside a file that is changed, so that no two programs change it at once.
 use crate::files;
+use std::fs::File;
+use std::io::ErrorKind;
+use std::{io, thread};
 
 // How often a lock that stands is tried again, within a tenth of a second: a change takes some thousandths.
 const TRIES: usize = 50000;
 
-// Makes the file, which no other program can make while it stands. Answers -1 where it was not made.
-fn made(name: &[u8]) -> i32 {
+// Makes the file, which no other program can make while it stands.
+fn made(rt: &HostRuntime, name: &[u8]) -> io::Result<File> {
     let mut left = TRIES;
     while 0 < left {
-        let fd = os::create(name);
-        if fd >= 0 {
-            return fd;
+        match files::create(rt, name) {
+            Ok(lock) => return Ok(lock),
+            Err(why) if why.kind() == ErrorKind::AlreadyExists => {}
+            Err(why) => return Err(why),
         }
-        if os::errno() != libc::EEXIST {
-            return fd;
-        }
-        libc::sched_yield();
+        thread::yield_now();
         left = left - 1;
     }
-    os::create(name)
+    files::create(rt, name)
 }
 
 // Takes the lock of a path that is to be changed, after a look at whether it may be; - needs none. Says why not.
-pub fn take(path: &[u8]) -> bool {
+pub fn take(rt: &HostRuntime, path: &[u8]) -> bool {
     if catalogue_text::is_dash(path) {
         return true;
     }
     if files::LONGEST < path.len() {
-        catalogue_text::too_long(path);
+        catalogue_text::too_long(rt, path);
         return false;
     }
-    if !files::may_be_written(path) {
+    if !files::may_be_written(rt, path) {
         return false;
     }
     let name = files::with_tail(path, b".lock");
     let end = path.len() + 5;
-    let fd = made(&name[..end]);
-    if fd >= 0 {
-        libc::close(fd);
-        return true;
+    match made(rt, &name[..end]) {
+        Ok(_) => true,
+        Err(why) if why.kind() == ErrorKind::AlreadyExists => {
+            catalogue_text::locked(rt, path);
+            false
+        }
+        Err(why) => {
+            host::fail(rt, path, why);
+            false
+        }
     }
-    if os::errno() == libc::EEXIST {
-        catalogue_text::locked(path);
-        return false;
-    }
-    os::fail(path);
-    false
 }
 
 // Lets go of a lock that was taken. One that cannot be removed is told.
-pub fn release(path: &[u8]) {
+pub fn release(rt: &HostRuntime, path: &[u8]) {
     if catalogue_text::is_dash(path) {
         return;
     }
@@ -58,7 +59,7 @@ pub fn release(path: &[u8]) {
     }
     let name = files::with_tail(path, b".lock");
     let end = path.len() + 5;
-    if os::unlink(&name[..end]) < 0 {
-        os::fail(&name[..end]);
+    if let Err(why) = files::remove(rt, &name[..end]) {
+        host::fail(rt, &name[..end], why);
     }
 }

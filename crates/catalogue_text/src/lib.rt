@@ -4,127 +4,139 @@
 ghost use Rattle.std.specs.Prelude.{◌≤◌};
 
 use catalogue_rules::Found;
-use libc::{STDERR_FILENO, STDOUT_FILENO};
+use std::io;
 
 // Answers whether it was written.
-pub fn tell(text: &[u8]) -> bool {
-    io::write_all(STDOUT_FILENO, text)
+pub fn tell(rt: &HostRuntime, text: &[u8]) -> io::Result<()> {
+    rt.write_all(text)
 }
 
-pub fn warn(text: &[u8]) {
-    io::write_all(STDERR_FILENO, text);
+pub fn warn(rt: &HostRuntime, text: &[u8]) {
+    let _ = rt.stderr().write_all(text);
 }
 
-pub fn warn_number(n: usize) {
-    io::print_decimal(STDERR_FILENO, n as u64);
+pub fn warn_number(rt: &HostRuntime, n: usize) {
+    let _ = rt.stderr().print(n);
 }
 
-pub fn warn_address(address: u64) {
-    print_hex(STDERR_FILENO, address, 12);
+pub fn warn_address(rt: &HostRuntime, address: u64) {
+    let _ = print_hex(&rt.stderr(), address, 12);
 }
 
 // Says so where standard output did not take all.
-pub fn told(whole: bool) {
-    if !whole {
-        os::fail(b"standard output");
+pub fn told(rt: &HostRuntime, whole: io::Result<()>) {
+    if let Err(why) = whole {
+        host::fail(rt, b"standard output", why);
     }
 }
 
-pub fn usage() {
-    warn(b"usage: catalogue list FILE\n");
-    warn(b"       catalogue check FILE\n");
-    warn(b"       catalogue show FILE ADDRESS [VERSION]\n");
-    warn(b"       catalogue diff FILE ADDRESS VERSION VERSION\n");
-    warn(b"       catalogue lookup OVERRIDE FILE ADDRESS\n");
-    warn(b"       catalogue add FILE IMAGE\n");
-    warn(b"       catalogue drop FILE ADDRESS\n");
-    warn(b"       catalogue import ARCHIVE FILE [--replace]\n");
-    warn(b"       catalogue export FILE ARCHIVE [--replace]\n");
-    warn(b"ADDRESS has twelve hexadecimal digits; VERSION is a number from 0 to 65535.\n");
-    warn(b"- stands for standard input or output; a file of that name is ./-.\n");
-    warn(b"--replace writes over what stands there; a file of that name is ./--replace.\n");
+pub fn usage(rt: &HostRuntime) {
+    warn(rt, b"usage: catalogue list FILE\n");
+    warn(rt, b"       catalogue check FILE\n");
+    warn(rt, b"       catalogue show FILE ADDRESS [VERSION]\n");
+    warn(rt, b"       catalogue diff FILE ADDRESS VERSION VERSION\n");
+    warn(rt, b"       catalogue lookup OVERRIDE FILE ADDRESS\n");
+    warn(rt, b"       catalogue add FILE IMAGE\n");
+    warn(rt, b"       catalogue drop FILE ADDRESS\n");
+    warn(rt, b"       catalogue import ARCHIVE FILE [--replace]\n");
+    warn(rt, b"       catalogue export FILE ARCHIVE [--replace]\n");
+    warn(
+        rt,
+        b"ADDRESS has twelve hexadecimal digits; VERSION is a number from 0 to 65535.\n",
+    );
+    warn(
+        rt,
+        b"- stands for standard input or output; a file of that name is ./-.\n",
+    );
+    warn(
+        rt,
+        b"--replace writes over what stands there; a file of that name is ./--replace.\n",
+    );
 }
 
 // Whether a file's name means standard input or output.
 pub fn is_dash(path: &[u8]) -> bool {
-    check::same(path, b"-")
+    path == b"-".as_slice()
 }
 
 // The name of a file that is read.
-pub fn source(path: &[u8]) {
+pub fn source(rt: &HostRuntime, path: &[u8]) {
     if is_dash(path) {
-        warn(b"standard input");
+        warn(rt, b"standard input");
         return;
     }
-    warn(path);
+    warn(rt, path);
 }
 
-pub fn larger(path: &[u8], room: usize) {
-    source(path);
-    warn(b": larger than ");
-    warn_number(room);
-    warn(b" bytes\n");
+pub fn larger(rt: &HostRuntime, path: &[u8], room: usize) {
+    source(rt, path);
+    warn(rt, b": larger than ");
+    warn_number(rt, room);
+    warn(rt, b" bytes\n");
 }
 
-pub fn too_long(path: &[u8]) {
-    warn(path);
-    warn(b": the name is too long\n");
+pub fn too_long(rt: &HostRuntime, path: &[u8]) {
+    warn(rt, path);
+    warn(rt, b": the name is too long\n");
 }
 
-pub fn link(path: &[u8]) {
-    warn(path);
-    warn(b": a symbolic link; name the file that it leads to\n");
+pub fn link(rt: &HostRuntime, path: &[u8]) {
+    warn(rt, path);
+    warn(rt, b": a symbolic link; name the file that it leads to\n");
 }
 
-pub fn stands(path: &[u8]) {
-    warn(path);
-    warn(b": stands already; --replace writes over it\n");
+pub fn stands(rt: &HostRuntime, path: &[u8]) {
+    warn(rt, path);
+    warn(rt, b": stands already; --replace writes over it\n");
 }
 
-pub fn catalogue_stands(path: &[u8]) {
-    warn(path);
-    warn(b": a catalogue stands there; --replace writes over it\n");
+pub fn catalogue_stands(rt: &HostRuntime, path: &[u8]) {
+    warn(rt, path);
+    warn(
+        rt,
+        b": a catalogue stands there; --replace writes over it\n",
+    );
 }
 
-pub fn locked(path: &[u8]) {
-    warn(path);
-    warn(b".lock: stands already; another program is changing ");
-    warn(path);
-    warn(b" (if none is, remove it)\n");
+pub fn locked(rt: &HostRuntime, path: &[u8]) {
+    warn(rt, path);
+    warn(rt, b".lock: stands already; another program is changing ");
+    warn(rt, path);
+    warn(rt, b" (if none is, remove it)\n");
 }
 
-pub fn sound(cards: usize, fields: usize) {
-    let mut whole = tell(b"sound: ");
-    whole = io::print_decimal(STDOUT_FILENO, cards as u64) & whole;
-    whole = tell(b" cards, ") & whole;
-    whole = io::print_decimal(STDOUT_FILENO, fields as u64) & whole;
-    whole = tell(b" fields\n") & whole;
-    told(whole);
+pub fn sound(rt: &HostRuntime, cards: usize, fields: usize) {
+    let mut whole = tell(rt, b"sound: ");
+    whole = rt.print(cards).and(whole);
+    whole = tell(rt, b" cards, ").and(whole);
+    whole = rt.print(fields).and(whole);
+    whole = tell(rt, b" fields\n").and(whole);
+    told(rt, whole);
 }
 
 // The version that a card got.
-pub fn added(number: u16, address: u64) {
-    let mut whole = tell(b"version ");
-    whole = io::print_decimal(STDOUT_FILENO, number as u64) & whole;
-    whole = tell(b" of ") & whole;
-    whole = print_hex(STDOUT_FILENO, address, 12) & whole;
-    whole = tell(b"\n") & whole;
-    told(whole);
+pub fn added(rt: &HostRuntime, number: u16, address: u64) {
+    let mut whole = tell(rt, b"version ");
+    whole = rt.print(number).and(whole);
+    whole = tell(rt, b" of ").and(whole);
+    whole = print_hex(rt, address, 12).and(whole);
+    whole = tell(rt, b"\n").and(whole);
+    told(rt, whole);
 }
 
 // A word of an image that another image has otherwise.
-pub fn changed(word: usize, old: u16, new: u16) -> bool {
-    let mut whole = tell(b"word ");
-    whole = print_hex(STDOUT_FILENO, word as u64, 2) & whole;
-    whole = tell(b": ") & whole;
-    whole = print_hex(STDOUT_FILENO, old as u64, 4) & whole;
-    whole = tell(b" -> ") & whole;
-    whole = print_hex(STDOUT_FILENO, new as u64, 4) & whole;
-    tell(b"\n") & whole
+pub fn changed(rt: &HostRuntime, word: usize, old: u16, new: u16) -> io::Result<()> {
+    let mut whole = tell(rt, b"word ");
+    whole = print_hex(rt, word as u64, 2).and(whole);
+    whole = tell(rt, b": ").and(whole);
+    whole = print_hex(rt, old as u64, 4).and(whole);
+    whole = tell(rt, b" -> ").and(whole);
+    whole = print_hex(rt, new as u64, 4).and(whole);
+    tell(rt, b"\n").and(whole)
 }
 
 // Upper-case hexadecimal digits, as many as asked, of the number's low end.
-pub fn print_hex(fd: i32, number: u64, width: usize) -> bool
+pub fn print_hex(to: &impl Print, number: u64, width: usize) -> io::Result<()>
     requires { width ≤ 12 }
 {
     let mut digits = [48u8; 12];
@@ -136,41 +148,38 @@ pub fn print_hex(fd: i32, number: u64, width: usize) -> bool
         left = left / 16;
     }
     let first = 12 - width;
-    io::write_all(fd, &digits[first..])
+    to.write_all(&digits[first..])
 }
 
 // A card to a line: its address, and the numbers of its versions.
-pub fn cards(file: &[u8]) {
+pub fn cards(rt: &HostRuntime, file: &[u8]) {
     let mut at = 0;
     let mut some = false;
-    let mut whole = true;
+    let mut whole = Ok(());
     loop {
         match catalogue_read::field_at(file, at) {
             Found::Cut => {
                 if some {
-                    whole = tell(b"\n") & whole;
+                    whole = tell(rt, b"\n").and(whole);
                 }
-                told(whole);
+                told(rt, whole);
                 return;
             }
             Found::Whole { tag, start, len } => {
                 if tag == 1 {
                     if some {
-                        whole = tell(b"\n") & whole;
+                        whole = tell(rt, b"\n").and(whole);
                     }
-                    whole = print_hex(
-                        STDOUT_FILENO,
-                        catalogue_read::address_at(file, start, len),
-                        12,
-                    ) & whole;
+                    whole = print_hex(rt, catalogue_read::address_at(file, start, len), 12).and(
+                        whole,
+                    );
                     some = true;
                 }
                 if tag == 2 {
-                    whole = tell(b" ") & whole;
-                    whole = io::print_decimal(
-                        STDOUT_FILENO,
-                        catalogue_read::value_number(file, start, len) as u64,
-                    ) & whole;
+                    whole = tell(rt, b" ").and(whole);
+                    whole = rt
+                        .print(catalogue_read::value_number(file, start, len))
+                        .and(whole);
                 }
                 at = start + len;
             }

@@ -2,7 +2,7 @@
 // The worst cases of a service's stack: a damaged frame that cannot be discarded, and 768 damaged frames of 8 bytes. It writes the accesses used by each.
 use card_rules::Card;
 use driver_rules::Driver;
-use libc::STDOUT_FILENO;
+use std::io;
 
 // A power-on card, active in window 1.
 fn active() -> Card {
@@ -48,12 +48,11 @@ fn crowded() -> usize {
     used(c, &mut dir)
 }
 
-fn write_number(n: usize) {
-    io::print_decimal(STDOUT_FILENO, n as u64);
-    io::write_all(STDOUT_FILENO, b"\n");
+fn write_number(rt: &HostRuntime, n: usize) -> io::Result<()> {
+    rt.println(n)
 }
 
-fn main() {
-    write_number(stuck());
-    write_number(crowded());
+fn main(rt: HostRuntime) -> io::Result<()> {
+    write_number(&rt, stuck())?;
+    write_number(&rt, crowded())
 }

@@ -1,9 +1,9 @@
 #![tactic(auto)]
 // Three cards on ID port 110h are found, and the second is activated at base number 5. A tag of 8 is refused.
 use idport::fresh;
-use libc::STDOUT_FILENO;
 use port_rules::{Activation, Bus, Found, IdState};
 use refusal::Refusal;
+use std::io;
 
 // A card after power-on, with this station address in its EEPROM.
 fn card(a: u16, b: u16, c: u16) -> IdState {
@@ -14,52 +14,33 @@ fn card(a: u16, b: u16, c: u16) -> IdState {
     fresh(words)
 }
 
-fn wide(x: usize) -> u64 {
-    x as u64
-}
-
-fn tell_refused(why: Refusal) {
+fn tell_refused(rt: &HostRuntime, why: Refusal) -> io::Result<()> {
     let number = refusal::number(why);
-    io::write_all(STDOUT_FILENO, b"refused ");
-    io::print_decimal(STDOUT_FILENO, number as u64);
-    io::write_all(STDOUT_FILENO, b"\n");
+    println!(rt; "refused {number}")
 }
 
-fn tell_found(answer: Found) {
+fn tell_found(rt: &HostRuntime, answer: Found) -> io::Result<()> {
     match answer {
-        Found::Refused(why) => tell_refused(why),
-        Found::Cards { count, accesses } => {
-            io::write_all(STDOUT_FILENO, b"found ");
-            io::print_decimal(STDOUT_FILENO, wide(count));
-            io::write_all(STDOUT_FILENO, b" accesses ");
-            io::print_decimal(STDOUT_FILENO, wide(accesses));
-            io::write_all(STDOUT_FILENO, b"\n");
-        }
+        Found::Refused(why) => tell_refused(rt, why),
+        Found::Cards { count, accesses } => println!(rt; "found {count} accesses {accesses}"),
     }
 }
 
-fn tell_activation(answer: Activation) {
+fn tell_activation(rt: &HostRuntime, answer: Activation) -> io::Result<()> {
     match answer {
-        Activation::Refused(why) => tell_refused(why),
-        Activation::Done { accesses } => {
-            io::write_all(STDOUT_FILENO, b"activated accesses ");
-            io::print_decimal(STDOUT_FILENO, wide(accesses));
-            io::write_all(STDOUT_FILENO, b"\n");
-        }
+        Activation::Refused(why) => tell_refused(rt, why),
+        Activation::Done { accesses } => println!(rt; "activated accesses {accesses}"),
     }
 }
 
-fn tell_addresses(addresses: [u64; 7]) {
-    let mut i: usize = 0;
-    while i < 7 {
-        let a = addresses[i];
-        io::print_hex(STDOUT_FILENO, a, 12);
-        io::write_all(STDOUT_FILENO, b"\n");
-        i += 1;
+fn tell_addresses(rt: &HostRuntime, addresses: [u64; 7]) -> io::Result<()> {
+    for a in addresses {
+        println!(rt; "{a:012x}")?;
     }
+    Ok(())
 }
 
-fn main() {
+fn main(rt: HostRuntime) -> io::Result<()> {
     let none = card(0, 0, 0);
     let mut cards = [none; 8];
     cards[0] = card(0x0020, 0xAF01, 0x0203);
@@ -75,12 +56,12 @@ fn main() {
     let found = searched.answer;
     let addresses = searched.addresses;
     let bus = searched.bus;
-    tell_found(found);
-    tell_addresses(addresses);
+    tell_found(&rt, found)?;
+    tell_addresses(&rt, addresses)?;
     let activated = port::activate_card(bus, 0x110, 2, 5);
     let answer = activated.answer;
-    tell_activation(answer);
+    tell_activation(&rt, answer)?;
     let again = port::activate_card(bus, 0x110, 8, 5);
     let refused = again.answer;
-    tell_activation(refused);
+    tell_activation(&rt, refused)
 }

@@ -30,7 +30,7 @@ under : {t u : Turn} {fs : List Field} → Under t u → Told u fs → Told t fs
 under (numbered h) (ends e) = absurd (false≢true e)
 under (numbered h) (other o t) = other o (under (numbered h) t)
 under (numbered h) (card a l t) = no-card a
-under (numbered h) (image l t) = image l (under (imaged h) t)
+under (numbered {j = j} {n = n} h) (image l t) = image l (under {t = Imaged j n} (imaged h) t)
 under (imaged h) (ends e) = ends refl
 under (imaged h) (other o t) = other o (under (imaged h) t)
 under (imaged h) (card a l t) = card refl l t

@@ -1,12 +1,11 @@
 -- Characters put one behind the other, and what a loop that puts them keeps. Assumes nothing.
 use Prim.Native.Nat.{ℕ, zero, suc, ◌+◌, ◌-◌, ◌*◌, ◌/◌, ◌%◌, ◌≤◌, ◌<◌}
 use mathlib.Core.Path.{◌≡◌, refl, ap, sym, subst, ◌∙◌}
-use mathlib.Core.Bool.{cond}
 use mathlib.Core.List.{List, [], ◌∷◌, ◌++◌, append_assoc, append-nil}
 use native.Mathlib.Omega.{arith}
 use native.Mathlib.Numerals.{add-one, sub-one}
 use borrow.Author.Tests.{lt-ltb, le-ltb}
-use lib.ListN.{length, take, drop, get_or, set, length-append, length-set}
+use lib.ListN.{length, take, get_or, set, length-append, length-set}
 use lib.Seq.{take-suc, take-suc-set}
 use Rattle.bench_rules.specs.Text.{Puts, byte_text, bytes_text, places_text, digit_of}
 

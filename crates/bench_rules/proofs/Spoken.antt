@@ -1,5 +1,5 @@
 -- Laws of lines: a row of addresses, a number with its sign, and a line that stands at the front of a text. Assumes nothing.
-use Prim.Native.Nat.{ℕ, zero, suc, ◌+◌, ◌*◌, ◌≤◌, ◌<◌, min}
+use Prim.Native.Nat.{ℕ, suc, ◌+◌, ◌<◌, min}
 use mathlib.Core.Path.{◌≡◌, refl, ap, sym, subst, ◌∙◌}
 use mathlib.Core.Bool.{true, false}
 use mathlib.Core.List.{List, [], ◌∷◌, ◌++◌, append_assoc, append-nil}
@@ -9,7 +9,7 @@ use borrow.Author.Tests.{ltb-true}
 use lib.Dec.{T}
 use lib.IntN.{ℤ, pos, negsuc, nat_abs, ◌-ℤ◌, +ℤ_idl}
 use lib.Signed.{lt_z}
-use lib.ListN.{length, take, get_or, length-append, length-take}
+use lib.ListN.{length, take, get_or, length-take}
 use lib.Seq.{take-suc}
 use Rattle.bench_rules.specs.Text.{decimal_text, Puts}
 use Rattle.bench_rules.proofs.Placed as law

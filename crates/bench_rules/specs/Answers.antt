@@ -1,5 +1,5 @@
 -- The answers of the bench, each a line of characters with its newline. Assumes nothing.
-use Rattle.std.specs.Prelude.{ℕ, zero, suc, ◌+◌, ◌*◌, ◌/◌, ◌%◌, ◌≤◌, ◌≡◌, cond, List, [], ◌∷◌, ◌++◌, length, take, ℤ, pos, negsuc, ltb}
+use Rattle.std.specs.Prelude.{ℕ, suc, ◌/◌, ◌%◌, ◌≤◌, ◌≡◌, cond, List, [], ◌∷◌, ◌++◌, length, take, ℤ, pos, negsuc, ltb}
 use Rattle.bench_rules.specs.Text.{byte_text, word_text, bytes_text, decimal_text}
 use Rattle.bench_rules.specs.declared.Reply.{Reply}
 use Rattle.bench_rules.specs.declared.Reply.TheVariants as reply

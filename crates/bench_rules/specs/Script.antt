@@ -1,5 +1,5 @@
 -- The language of the bench: which line asks for what. A line is a list of characters without its newline. Assumes nothing.
-use Rattle.std.specs.Prelude.{ℕ, zero, suc, ◌+◌, ◌-◌, ◌*◌, ◌/◌, ◌≤◌, ◌≡◌, Bool, true, false, cond, not, ◌&&◌, ◌||◌, List, [], ◌∷◌, length, take, drop, get_or, ltb, leb, eqb}
+use Rattle.std.specs.Prelude.{ℕ, suc, ◌+◌, ◌*◌, ◌/◌, ◌≤◌, ◌≡◌, Bool, cond, not, ◌||◌, List, [], ◌∷◌, length, take, drop, get_or, ltb, leb, eqb}
 use Rattle.bench_rules.specs.Text.{none, number_of, is_pairs, bytes_of}
 use Rattle.bench_rules.specs.declared.Kind.{Kind}
 use Rattle.bench_rules.specs.declared.Kind.TheVariants.{Nothing, Unknown, Power, Join, ReadWord, ReadByte, WriteWord, WriteByte, Start, Bytes, End, Sent, Collided, RxStatus, IdWrite, IdRead, Search, Activate, Open, Send, Service}

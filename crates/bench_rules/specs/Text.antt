@@ -1,5 +1,5 @@
 -- Text and numbers. Text is a list of characters. Assumes nothing.
-use Rattle.std.specs.Prelude.{ℕ, zero, suc, ◌+◌, ◌-◌, ◌*◌, ◌/◌, ◌%◌, ◌≤◌, ◌≡◌, Bool, true, false, cond, ◌&&◌, List, [], ◌∷◌, ◌++◌, length, take, ltb, leb, eqb}
+use Rattle.std.specs.Prelude.{ℕ, zero, suc, ◌+◌, ◌-◌, ◌*◌, ◌/◌, ◌%◌, ◌≡◌, Bool, true, cond, ◌&&◌, List, [], ◌∷◌, ◌++◌, length, take, ltb, leb, eqb}
 use Rattle.bench_rules.specs.declared.Spelled.{Spelled}
 use Rattle.bench_rules.specs.declared.Spelled.TheVariants.{Bytes, Wrong}
 

@@ -1,5 +1,4 @@
 -- `judge::decoded` meets its contract: what is above the most is 2,048 less. Assumes nothing.
-use borrow.Author.Rules.{rules}
 use borrow.Author.Tests.{le-leb, lt-leb, lt-ltb}
 use mathlib.Core.Path.{◌≡◌, sym, ap, ◌∙◌, subst}
 use Prim.Native.Nat.{ℕ, suc, ◌-◌, ◌%◌, ◌<◌, ◌≤◌}
@@ -9,8 +8,7 @@ use mir.Syntax.{w16}
 use mir.Val.{SFits, to_z}
 use mir.ValLaws.{to_z_pos, to_z-of_z}
 use Rattle.receive_rules.specs.Count.{decoded}
-use Rattle.judge.proofs.decoded.Statement.{statement}
-use Rattle.judge.proofs.decoded.Tie as tie
+use Rattle.judge.proofs.decoded.Goals as goal
 
 -- 2,048 less, in eleven bits
 module _ (t : ℕ) (h : t < 2048) where
@@ -26,14 +24,11 @@ up-to-the-most rx h = rw (le-leb (rx % 2048) 1792 h)
 above : (rx : ℕ) → 1792 < rx % 2048 → negsuc (2047 - rx % 2048) ≡ decoded rx
 above rx h = rw (lt-leb (rx % 2048) 1792 h)
 
-returns : tie.Need-returns
-returns c = to_z_pos w16 (c.before.args.rx % 2048) (omega arith) ∙ up-to-the-most c.before.args.rx c.if1.true
+pub returns-then-told-le-MOST_UNREAD : goal.returns-then-told-le-MOST_UNREAD
+returns-then-told-le-MOST_UNREAD c = to_z_pos w16 (c.args.rx % 2048) (omega arith) ∙ up-to-the-most c.args.rx c.if-told-le-MOST_UNREAD.true
 
-sub-result : tie.Need-overflow-sub-result
-sub-result c = fits (c.before.args.rx % 2048) (omega arith)
+pub overflow_sub-result : goal.overflow_sub-result
+overflow_sub-result c = fits (c.args.rx % 2048) (omega arith)
 
-returns-2 : tie.Need-returns-2
-returns-2 c = to_z-of_z w16 _ (sub-result c) ∙ less (c.before.args.rx % 2048) (omega arith) ∙ above c.before.args.rx c.if1.false
-
-pub decoded-spec : {M : Type 1} → statement M
-decoded-spec = tie.close (tie.spec (λ c. search rules) returns (λ c. search rules) (λ c. search rules) sub-result returns-2)
+pub returns : goal.returns
+returns c = to_z-of_z w16 _ (overflow_sub-result c) ∙ less (c.args.rx % 2048) (omega arith) ∙ above c.args.rx c.if-told-le-MOST_UNREAD.false

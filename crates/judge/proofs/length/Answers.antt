@@ -1,5 +1,4 @@
 -- `judge::length` meets its contract: a count that is not below 0 is a length. Assumes nothing.
-use borrow.Author.Rules.{rules}
 use borrow.Author.Tests.{le-ltb}
 use mathlib.Core.Path.{◌≡◌, refl, sym, ap, ◌∙◌, subst}
 use mathlib.Core.Bool.{Bool, true, false}
@@ -13,8 +12,7 @@ use mir.Val.{Fits, to_z, of_z}
 use Rattle.bits.proofs.Tests.{never}
 use Rattle.receive_rules.proofs.Count.{back}
 use Rattle.driver_rules.specs.Registers.{length_of}
-use Rattle.judge.proofs.length.Statement.{statement}
-use Rattle.judge.proofs.length.Tie as tie
+use Rattle.judge.proofs.length.Goals as goal
 
 -- the machine's test of a count is the definition's
 tested : (z : ℤ) → mag z < 32768 → (b : Bool) → lt_z (to_z w16 (of_z w16 z)) (pos 0) ≡ b → lt_z z (pos 0) ≡ b
@@ -32,20 +30,17 @@ long : (z : ℤ) → lt_z z (pos 0) ≡ false → nat_abs z ≡ length_of z
 long (pos n) t = refl
 long (negsuc n) t = never (sym t)
 
-returns : tie.Need-returns
+pub returns-then-count-lt0 : goal.returns-then-count-lt0
+returns-then-count-lt0 c =
+    let u = c.decoded-count in
+    negative u.result (tested u.result u.type_inv true c.if-count-lt0.true) ∙ ap length_of u.ensures
+
+pub overflow_cast-result : goal.overflow_cast-result
+overflow_cast-result c =
+    let u = c.decoded-count in
+    subst (λ (v : ℤ). T (non_neg v) × Fits w64 (nat_abs v)) (sym (back u.result u.type_inv)) (whole u.result u.type_inv (tested u.result u.type_inv false c.if-count-lt0.false))
+
+pub returns : goal.returns
 returns c =
-    let u = c.before.decoded in
-    negative u.result (tested u.result u.type-inv true c.if1.true) ∙ ap length_of u.ensures
-
-cast-result : tie.Need-overflow-cast-result
-cast-result c =
-    let u = c.before.decoded in
-    subst (λ (v : ℤ). T (non_neg v) × Fits w64 (nat_abs v)) (sym (back u.result u.type-inv)) (whole u.result u.type-inv (tested u.result u.type-inv false c.if1.false))
-
-returns-2 : tie.Need-returns-2
-returns-2 c =
-    let u = c.before.decoded in
-    ap nat_abs (back u.result u.type-inv) ∙ long u.result (tested u.result u.type-inv false c.if1.false) ∙ ap length_of u.ensures
-
-pub length_spec : {M : Type 1} → statement M
-length_spec = tie.close (tie.spec (λ c κs. search rules) returns cast-result returns-2)
+    let u = c.decoded-count in
+    ap nat_abs (back u.result u.type_inv) ∙ long u.result (tested u.result u.type_inv false c.if-count-lt0.false) ∙ ap length_of u.ensures

@@ -15,7 +15,7 @@ use Rattle.receive_rules.specs.Frame.{coming, Frame, overran}
 use Rattle.receive_rules.specs.Wire.{fresh, longer, fits, full, takes, ending, ends}
 use Rattle.receive_rules.specs.Sound.{in_order}
 use Rattle.receive_rules.specs.View.{state_of, told, rx_area, frames_of, Turns}
-use Rattle.bits.proofs.Tests.{never, neither}
+use Rattle.bits.proofs.Tests.{neither}
 use Rattle.receive_rules.proofs.Laws.{overran-word, room-told, room_snoc, map_snoc, lift}
 use Rattle.receive_rules.proofs.Taking.{newest-coming, takes_none, takes-marks, takes-longer}
 

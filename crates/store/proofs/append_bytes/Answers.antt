@@ -1,5 +1,4 @@
 -- `store::append_bytes` meets its contract: after i turns i bytes are appended. Assumes nothing.
-use Prim.Native.Nat.{◌-◌}
 use native.Mathlib.Omega.{arith}
 use Rattle.store.proofs.Lift.{sofar_none, sofar_open, sofar_more, sofar_all}
 use Rattle.store.proofs.append_bytes.Goals as goal

@@ -1,6 +1,5 @@
 -- `store::shift_bytes` meets its contract: the array so far is the shift of i elements. Assumes nothing.
 use borrow.Author.Rules.{rules}
-use Prim.Native.Nat.{◌-◌}
 use Rattle.store.proofs.Laws.{shift_none, shift_turn, shift_all}
 use Rattle.store.proofs.shift_bytes.Goals as goal
 

@@ -1,7 +1,6 @@
 -- `store::used` meets its contract: the sum so far is the room of the first i words. Assumes nothing.
 use borrow.Author.Rules.{rules}
 use mathlib.Core.Path.{◌≡◌}
-use Prim.Native.Nat.{◌-◌}
 use native.Mathlib.Omega.{arith}
 use Rattle.store.specs.Store.{room_of}
 use Rattle.store.proofs.Laws.{room_more}

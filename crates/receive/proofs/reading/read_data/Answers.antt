@@ -1,7 +1,6 @@
 -- `reading::read_data` meets its contract: its tests are the definition's, and where both fail there is a frame that has the two bytes. Assumes nothing.
 use borrow.Author.Tests.{ltb-false}
 use mathlib.Core.Path.{sym, ap, ◌∙◌}
-use mathlib.Core.Bool.{true, false}
 use native.Mathlib.Omega.{arith}
 use lib.IntN.{ℤ, pos}
 use lib.Signed.{lt_z}

@@ -1,7 +1,6 @@
 -- `sound::all_ended` meets its contract: after i turns the answer is that of the first i words. Assumes nothing.
 use mathlib.Core.Path.{◌≡◌, refl, ap, ◌∙◌}
 use mathlib.Core.Bool.{Bool, ◌&&◌}
-use Prim.Native.Nat.{◌-◌}
 use native.Mathlib.Omega.{arith}
 use lib.ListN.{get_or}
 use Rattle.receive_rules.specs.View.{all_ended, ended_word}

@@ -1,7 +1,6 @@
 -- Small archives, moved in and out by computing; short images stand in. Assumes nothing.
-use Prim.Native.Nat.{ℕ}
 use mathlib.Core.Path.{◌≡◌, refl}
-use mathlib.Core.List.{List, [], ◌∷◌}
+use mathlib.Core.List.{[], ◌∷◌}
 use Rattle.catalogue_rules.specs.Field.{field}
 use Rattle.catalogue_rules.specs.Turns.{address_of}
 use Rattle.catalogue_rules.specs.Cards.{versions_from, cards_of}

@@ -7,7 +7,7 @@ use lib.ListN.{replicate}
 use Rattle.refusal.specs.declared.Refusal.TheVariants.{FieldDamaged, FileEndsEarly, ListedTwice}
 use Rattle.catalogue_rules.specs.Field.{Field, field, bytes_of, is_whole, fields_within, fields_of, left_within, left_of}
 use Rattle.catalogue_rules.specs.Turns.{address_of, after}
-use Rattle.catalogue_rules.specs.Reading.{catalogue, refused, reading, count_field, addresses_of, any_twice, read, file_of}
+use Rattle.catalogue_rules.specs.Reading.{catalogue, refused, reading, addresses_of, any_twice, read, file_of}
 use Rattle.catalogue_rules.specs.Cards.{versions_from, cards_of}
 
 -- A catalogue of no cards.

@@ -6,10 +6,10 @@ use mathlib.Core.Bool.{Bool, true, false, cond, ◌&&◌}
 use mathlib.Core.List.{List, [], ◌∷◌}
 use native.Mathlib.Omega.{arith}
 use borrow.Author.Tests.{eq-eqb, ne_eqb}
-use lib.ListN.{length, drop, length-drop, drop_of_length-le}
+use lib.ListN.{length}
 use lib.Dec.{eqb}
 use Rattle.refusal.specs.declared.Refusal.TheVariants.{FieldDamaged}
-use Rattle.catalogue_rules.specs.Field.{Field, field, number_at, is_whole, first, behind, fields_of, left_of}
+use Rattle.catalogue_rules.specs.Field.{Field, field, number_at, is_whole, fields_of, left_of}
 use Rattle.catalogue_rules.proofs.Runs.{is_cut, fields_step, fields_stop, left_stop}
 use Rattle.catalogue_rules.specs.declared.Turn.{Turn}
 use Rattle.catalogue_rules.specs.declared.Judged.{Judged}

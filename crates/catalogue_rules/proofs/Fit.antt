@@ -1,8 +1,8 @@
 -- What is accepted is well-formed: the fields passed one by one in their turn, each length was two bytes, and so was the count.
 -- Assumes nothing.
-use Prim.Native.Nat.{ℕ, zero, suc, ◌+◌, ◌*◌, ◌≤◌, ◌<◌}
+use Prim.Native.Nat.{ℕ, zero, suc, ◌+◌, ◌<◌}
 use mathlib.Core.Path.{◌≡◌, refl, sym, ap, ap₂, subst, ◌∙◌}
-use mathlib.Core.Bool.{Bool, true, false, cond, ◌&&◌, not, false≢true}
+use mathlib.Core.Bool.{Bool, true, false, cond, ◌&&◌, not}
 use mathlib.Core.List.{List, [], ◌∷◌, ◌++◌}
 use native.Mathlib.Omega.{arith}
 use borrow.Author.Tests.{leb-true}
@@ -17,7 +17,7 @@ use Rattle.catalogue_rules.specs.Turns.{after, may_end, is_damaged}
 use Rattle.catalogue_rules.specs.Reading.{Reading, catalogue, refused, with, is_last, ends, reading, addresses_of, any_twice, roomy, read}
 use Rattle.catalogue_rules.proofs.Bools.{and_left}
 use Rattle.catalogue_rules.proofs.Came.{Came, came, roomy-only}
-use Rattle.catalogue_rules.specs.RoundTrip.{in_turn, Sizes, WellFormed, Bytes, AcceptedIsWellFormed}
+use Rattle.catalogue_rules.specs.RoundTrip.{in_turn, Sizes, Bytes, AcceptedIsWellFormed}
 use Rattle.catalogue_rules.proofs.Back.{AllBytes, all_bytes, bytes_drop, last-bytes}
 
 -- ---- turns

@@ -1,6 +1,6 @@
 -- Out after in: a card of three fields is in turn, and its one image is the latest.
 -- Assumes nothing.
-use Prim.Native.Nat.{ℕ, suc, ◌+◌, ◌*◌, ◌≤◌, ◌<◌}
+use Prim.Native.Nat.{ℕ, suc, ◌*◌}
 use mathlib.Core.Path.{◌≡◌, refl, sym, ap, ap₂, subst, ◌∙◌}
 use mathlib.Core.Bool.{Bool, true, false, cond, ◌&&◌, not, false≢true}
 use mathlib.Core.List.{List, [], ◌∷◌, ◌++◌}
@@ -11,15 +11,15 @@ use lib.Dec.{eqb}
 use Rattle.refusal.specs.declared.Refusal.TheVariants.{LengthOutside}
 use Rattle.image_rules.specs.declared.Checked.{Checked}
 use Rattle.image_rules.specs.Image.{or_refused, check_of}
-use Rattle.catalogue_rules.specs.Field.{Field, field, number_at}
+use Rattle.catalogue_rules.specs.Field.{Field, field}
 use Rattle.catalogue_rules.specs.declared.Turn.{Turn}
-use Rattle.catalogue_rules.specs.declared.Turn.TheVariants.{Begun, Addressed, Numbered, Imaged, Damaged}
+use Rattle.catalogue_rules.specs.declared.Turn.TheVariants.{Begun, Addressed, Imaged, Damaged}
 use Rattle.catalogue_rules.specs.Turns.{address_of, after_address, after, may_end, is_damaged}
 use Rattle.catalogue_rules.specs.Reading.{addresses_of, any_twice}
-use Rattle.catalogue_rules.specs.Cards.{Version, Card, versions_from, cards_of}
-use Rattle.catalogue_rules.specs.RoundTrip.{in_turn, Sizes, WellFormed}
+use Rattle.catalogue_rules.specs.Cards.{Version, versions_from, cards_of}
+use Rattle.catalogue_rules.specs.RoundTrip.{in_turn, Sizes}
 use Rattle.catalogue_rules.proofs.Round.{written_is_read_lem}
-use Rattle.catalogue_rules.specs.Archive.{row_of, address_in, moved_in, latest_of, images_of, is_sound, AllSound, addresses_in, BackAsItCame, OutAfterIn}
+use Rattle.catalogue_rules.specs.Archive.{row_of, address_in, moved_in, latest_of, images_of, is_sound, AllSound, addresses_in, OutAfterIn}
 
 -- A sound image has 128 bytes.
 sound-if : (t : Bool) (rest : Checked) → is_sound (or_refused t LengthOutside rest) ≡ true → t ≡ true

@@ -1,12 +1,12 @@
 -- The fields that bytes begin with, one at a time: the bound on their number never matters, since each field takes three bytes.
 -- Assumes nothing.
-use Prim.Native.Nat.{ℕ, zero, suc, ◌+◌, ◌*◌, ◌-◌, ◌≤◌, ◌<◌}
-use mathlib.Core.Path.{◌≡◌, refl, ap, sym, ◌∙◌}
+use Prim.Native.Nat.{ℕ, zero, suc, ◌+◌, ◌≤◌, ◌<◌}
+use mathlib.Core.Path.{◌≡◌, refl, ap, ◌∙◌}
 use mathlib.Core.Bool.{Bool, true, false, cond}
 use mathlib.Core.List.{List, [], ◌∷◌}
 use native.Mathlib.Omega.{arith}
-use borrow.Author.Tests.{leb-true, leb-false, le-leb, lt-leb}
-use lib.ListN.{length, get_or, take, drop, length-drop}
+use borrow.Author.Tests.{leb-true, le-leb, lt-leb}
+use lib.ListN.{length, length-drop}
 use Rattle.catalogue_rules.specs.Field.{Field, number_at, is_whole, first, behind, fields_within, fields_of, left_within, left_of}
 
 pub whole-fits : (bytes : List ℕ) → is_whole bytes ≡ true → 3 + number_at bytes 1 ≤ length bytes

@@ -7,7 +7,7 @@ use Rattle.catalogue_rules.specs.declared.Turn.{Turn}
 use Rattle.catalogue_rules.specs.declared.Turn.TheVariants.{Numbered, Damaged}
 use Rattle.catalogue_rules.specs.declared.Judged.{Judged}
 use Rattle.catalogue_rules.specs.declared.Judged.TheVariants.{Sound, Refused}
-use Rattle.catalogue_rules.specs.Reading.{Reading, catalogue, refused, ends, is_last, judged}
+use Rattle.catalogue_rules.specs.Reading.{catalogue, refused, ends, is_last, judged}
 
 abbrev pub rising : ℕ → ℕ → ℕ → Turn
 rising nth last number = cond (ltb nth 8 && ltb last number) (Numbered (nth + 1) number) Damaged

@@ -1,5 +1,5 @@
 -- What is printed is read back. Assumes nothing.
-use Rattle.std.specs.Prelude.{ℕ, ◌<◌, ◌≡◌, Bool, true, ◌&&◌, List, [], ◌∷◌, length, ltb}
+use Rattle.std.specs.Prelude.{ℕ, ◌<◌, ◌≡◌, Bool, true, ◌&&◌, List, [], ◌∷◌, ltb}
 use Rattle.bench_rules.specs.Text.{number_of, is_hex, bytes_of, byte_text, word_text, bytes_text, decimal_text}
 
 unfoldable pub are_bytes : List ℕ → Bool

@@ -1,5 +1,5 @@
 -- Power-on, and Global Reset. Assumes nothing.
-use Rattle.std.specs.Prelude.{List, [], false, ℕ, get_or, replicate}
+use Rattle.std.specs.Prelude.{List, false, ℕ, get_or, replicate}
 use Rattle.port_rules.specs.Card.{id_fresh}
 use Rattle.receive_rules.specs.Reading.{rx_empty, deafened}
 use Rattle.transmit_rules.specs.Tx.{tx_empty}

@@ -1,0 +1,15 @@
+-- `places::card_end` meets its contract. The invariant: the place and the sizes of what is left before the end make the end.
+-- The measure is what is left of the file.
+-- Assumes nothing.
+use Prim.Native.Nat.{◌+◌, ◌-◌}
+use mathlib.Core.Path.{◌≡◌}
+use lib.ListN.{length, drop}
+use Rattle.catalogue_rules.specs.Field.{fields_of}
+use Rattle.catalogue_put.specs.Places.{card_end}
+use Rattle.catalogue_put.proofs.places.card_end.Given as goal
+
+abbrev pub invariant-loop-tag : goal.invariant-loop-tag
+invariant-loop-tag l = l.at + card_end (fields_of (drop l.at l.file)) ≡ l.from + card_end (fields_of (drop l.from l.file))
+
+abbrev pub decreases-loop-tag : goal.decreases-loop-tag
+decreases-loop-tag l = length l.file - l.at

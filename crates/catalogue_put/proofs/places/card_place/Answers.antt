@@ -1,0 +1,35 @@
+-- `places::card_place` meets its contract. The invariant: the card's place among what is left, from the place on, is its place in the file.
+-- The measure is what is left of the file.
+-- Assumes nothing.
+use native.Mathlib.Omega.{arith}
+use mathlib.Core.Path.{sym, ap, ◌∙◌}
+use lib.ListN.{drop}
+use Rattle.catalogue_rules.specs.Field.{fields_of}
+use Rattle.catalogue_rules.proofs.At.{stands, stops}
+use Rattle.catalogue_rules.specs.Reading.{addresses_of, is_among}
+use Rattle.catalogue_put.specs.Places.{seek_if}
+use Rattle.catalogue_put.proofs.Passed.{from_zero, card_nowhere, card-here, card-later}
+use Rattle.catalogue_put.proofs.places.card_place.Goals as goal
+
+pub loop-tag-init : goal.loop-tag-init
+loop-tag-init c = ap (seek_if (is_among c.args.address (addresses_of (fields_of c.args.file.now)))) (from_zero _)
+
+pub returns-in-Cut : goal.returns-in-Cut
+returns-in-Cut c =
+    card_nowhere c.args.address c.loop-tag.at (drop c.loop-tag.at c.args.file.now) _ (stops {file = c.args.file.now} {at = c.loop-tag.at} (sym c.in-Cut.is ∙ c.field_at.ensures)).none c.loop-tag.invariant
+
+pub overflow_add-next : goal.overflow_add-next
+overflow_add-next c =
+    omega (arith, (stands {file = c.args.file.now} {at = c.loop-tag.at} (sym c.in-Whole.is ∙ c.field_at.ensures)).fits)
+
+pub returns-then-is_address : goal.returns-then-is_address
+returns-then-is_address c =
+    card-here c.args.address c.args.file.now c.loop-tag.at _ c.loop-tag.invariant (stands {file = c.args.file.now} {at = c.loop-tag.at} (sym c.in-Whole.is ∙ c.field_at.ensures)) c.is_address.ensures c.if-is_address.true
+
+pub loop-tag-smaller : goal.loop-tag-smaller
+loop-tag-smaller c =
+    omega (arith, (stands {file = c.args.file.now} {at = c.loop-tag.at} (sym c.in-Whole.is ∙ c.field_at.ensures)).fits, (stands {file = c.args.file.now} {at = c.loop-tag.at} (sym c.in-Whole.is ∙ c.field_at.ensures)).behind_head)
+
+pub loop-tag-preserved : goal.loop-tag-preserved
+loop-tag-preserved c =
+    card-later c.args.address c.args.file.now c.loop-tag.at _ c.loop-tag.invariant (stands {file = c.args.file.now} {at = c.loop-tag.at} (sym c.in-Whole.is ∙ c.field_at.ensures)) c.is_address.ensures c.if-is_address.false

@@ -4,15 +4,11 @@ use Prim.Native.Nat.{◌<◌}
 use borrow.Author.Rules.{rules}
 use Rattle.port_rules.specs.Sequence.{id_next}
 use Rattle.port_rules.proofs.Chain.{chained}
-use Rattle.idport.proofs.sequence.byte_at.Statement.{statement}
-use Rattle.idport.proofs.sequence.byte_at.Tie as tie
+use Rattle.idport.proofs.sequence.byte_at.Goals as goal
 
-returns : tie.Need-returns
+pub returns : goal.returns
 unfolding id_next
 returns c =
     let below : c.args.i < 255 = search rules in
     let tested : Unit {0} = tt in
     rw chained
-
-pub byte-at-spec : {M : Type 1} → statement M
-byte-at-spec = tie.close (tie.spec (λ c. search rules) returns)

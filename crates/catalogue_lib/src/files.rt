@@ -45,7 +45,7 @@ fn take<R: Read>(from: &mut R, room: &mut [u8]) -> Taken
     }
 }
 
-fn got(taken: Taken) -> Got
+fn got_of(taken: Taken) -> Got
     ensures { result.len ≡ taken.len }
 {
     match taken.next {
@@ -81,7 +81,7 @@ fn take_of<R: Read>(rt: &HostRuntime, what: &[u8], from: &mut R, room: &mut [u8]
     if let Err(why) = taken.next {
         host::fail(rt, what, why);
     }
-    got(taken)
+    got_of(taken)
 }
 
 // Reads the start of a file, as much as the room holds; - is standard input.
@@ -121,7 +121,7 @@ pub fn peek(rt: &HostRuntime, path: &[u8], room: &mut [u8]) -> Got
     ensures { result.len ≤ length room.new }
 {
     match host::open(rt, path) {
-        Ok(mut file) => got(take(&mut file, room)),
+        Ok(mut file) => got_of(take(&mut file, room)),
         Err(_) => nothing(),
     }
 }

@@ -1,0 +1,17 @@
+-- `regs::rx_status` meets its contract: the size is the configuration's. Assumes nothing.
+use mathlib.Core.Path.{ap, ◌∙◌}
+use Prim.Native.Nat.{ℕ}
+use Rattle.receive_rules.specs.Reading.{rx_status}
+use Rattle.receive_rules.specs.View.{frames_of}
+use Rattle.card_rules.specs.View.{view}
+use Rattle.card_rules.proofs.Sides.{rx_sound_at}
+use Rattle.regs.proofs.rx_status.Goals as goal
+
+pub rx_status-requires : goal.rx_status-requires
+rx_status-requires c = rx_sound_at _ _ _ _ c.rx_size.ensures.0 c.requires
+
+pub returns : goal.returns
+unfolding view
+returns c =
+    let s = c.args in
+    c.rx_status.ensures ∙ ap (λ (n : ℕ). rx_status s.c.receive.receiver.read (frames_of n s.c.receive.frames s.ram.now s.dir.now)) c.rx_size.ensures.0

@@ -1,0 +1,6 @@
+-- `acts::tx_reset` meets its contract, by the law `tx-reset-does`. Assumes nothing.
+use Rattle.card_rules.proofs.Effects.{tx-reset-does}
+use Rattle.commands.proofs.acts.tx_reset.Goals as goal
+
+pub returns : goal.returns
+returns c = tx-reset-does _ _ c.reset-o.ensures

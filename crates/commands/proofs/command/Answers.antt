@@ -1,0 +1,18 @@
+-- `commands::command` meets its contract: the test picks RX Discard. Assumes nothing.
+use borrow.Author.Tests.{eq-eqb, ne_eqb}
+use Rattle.card_rules.specs.Command.{command}
+use Rattle.commands.proofs.command.Goals as goal
+
+pub discard-requires : goal.discard-requires
+discard-requires c = c.requires
+
+pub returns-then-n-eq8 : goal.returns-then-n-eq8
+unfolding command
+returns-then-n-eq8 c = rw (eq-eqb _ _ c.if-n-eq8.true) c.discard.ensures
+
+pub act-requires : goal.act-requires
+act-requires c = c.requires.held.statuses
+
+pub returns : goal.returns
+unfolding command
+returns c = rw (ne_eqb _ _ c.if-n-eq8.false) (c.act.ensures _ _ c.requires.held)

@@ -2,7 +2,7 @@
 use mathlib.Core.Path.{◌≡◌, refl, sym, ap, subst, subst⁻¹, ◌∙◌}
 use mathlib.Core.Bool.{Bool, true, false, cond, not, ◌&&◌}
 use mathlib.Core.List.{List, [], ◌∷◌, ◌++◌, append_assoc, append-nil}
-use Prim.Native.Nat.{ℕ, ◌+◌}
+use Prim.Native.Nat.{ℕ}
 use native.Mathlib.Omega.{arith}
 use borrow.Author.Tests.{eqb-true, eq-eqb}
 use lib.ListN.{length}
@@ -22,7 +22,6 @@ use Rattle.card_rules.specs.Adapter.{Adapter}
 use Rattle.card_rules.specs.Update.{with_rx, with_tx}
 use Rattle.card_rules.specs.Room.{rx_room}
 use Rattle.card_rules.specs.Settle.{settle}
-use Rattle.card_rules.specs.Sound.{sound}
 use Rattle.card_rules.proofs.Sides.{rx_of_lem}
 use Rattle.card_rules.specs.Event as card
 use Rattle.card_rules.specs.Calls.{on_wire, off_wire}

@@ -36,7 +36,7 @@ use Rattle.driver_rules.specs.Items.{Serving, plain, fetch_talk, words_in}
 use Rattle.driver_rules.specs.Service.{look_talk}
 use Rattle.driver_rules.specs.Calls.{service_call}
 use Rattle.driver_rules.specs.Paper.{frame}
-use Rattle.runs.specs.Run.{Bench, sound_bench, with_adapter, Areas, full, Start, Byte, End, served, serves, serving, wire, taken, next, said, after}
+use Rattle.runs.specs.Run.{Bench, sound_bench, with_adapter, Areas, full, Start, Byte, End, served, serves, serving, taken, next, said, after}
 use Rattle.runs.proofs.Kept.{adapter_of}
 use Rattle.frames_carried.specs.Brings.{stored}
 use Rattle.frames_carried.specs.Reads.{laid_in}

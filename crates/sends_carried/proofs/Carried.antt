@@ -47,7 +47,7 @@ record Step (e : Event) (b : Bench) : Type 0 where
 -- an event that leaves the FIFO alone
 unmoved : (a b : Bench) → Clear a → Same a.adapter b.adapter → Clear b
 unmoved a b c s =
-    record { no_failure = ap (λ (q : Queue). q.failed) s ∙ c.no-failure; none_half_written = ap (λ (q : Queue). q.part.words) s ∙ c.none-half-written }
+    record { no_failure = ap (λ (q : Queue). q.failed) s ∙ c.no_failure; none_half_written = ap (λ (q : Queue). q.part.words) s ∙ c.none_half_written }
 
 same-packets : (a b : Bench) → Same a.adapter b.adapter → packets a ++ [] ≡ packets b
 same-packets a b s = append-nil (packets a) ∙ ap (λ (q : Queue). q.packets) (sym s)
@@ -118,7 +118,7 @@ sent-step b c =
     record {
       in_order = rw r (leaves-first true (packets b) (some_stored b.adapter.tx r));
       on_wire_is = rw r (told-first (packets b) (some_stored b.adapter.tx r));
-      clear = rw r (record { no_failure = c.no-failure; none_half_written = c.none-half-written });
+      clear = rw r (record { no_failure = c.no_failure; none_half_written = c.none_half_written });
     })
     (λ n. record { in_order = rw n (append-nil (packets b)); on_wire_is = rw n refl; clear = rw n c })
 
@@ -130,7 +130,7 @@ collided-step b c =
     record {
       in_order = rw r (leaves-first false (packets b) (some_stored b.adapter.tx r));
       on_wire_is = rw r (sym (quiet-first (packets b)));
-      clear = rw r (record { no_failure = c.no-failure; none_half_written = c.none-half-written });
+      clear = rw r (record { no_failure = c.no_failure; none_half_written = c.none_half_written });
     })
     (λ n. record { in_order = rw n (append-nil (packets b)); on_wire_is = rw n refl; clear = rw n c })
 
@@ -248,7 +248,7 @@ seat-clear : (i : IdState) (b : Bench) → Clear b → Clear (with_adapter (card
 unfolding card.seat card.seated settle power_on
 seat-clear i b c =
     of_cond (λ (x : Adapter). Clear (with_adapter (settle x) b)) i.due (record { no_failure = refl; none_half_written = refl })
-    (record { no_failure = c.no-failure; none_half_written = c.none-half-written })
+    (record { no_failure = c.no_failure; none_half_written = c.none_half_written })
 
 pub clear : ClearStates
 unfolding before power_on

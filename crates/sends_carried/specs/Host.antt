@@ -5,7 +5,6 @@ use Rattle.store.specs.Store.{Frame, begun, len_of, round4}
 use Rattle.transmit_rules.specs.Queue.{no_part}
 use Rattle.transmit_rules.specs.Write.{sized}
 use Rattle.transmit_rules.specs.Whole.{bytes_of}
-use Rattle.transmit_rules.specs.Leave.{told}
 use Rattle.transmit_rules.specs.Tx.{ready}
 use Rattle.card_rules.specs.Adapter.{Adapter}
 use Rattle.card_rules.specs.Room.{tx_free}

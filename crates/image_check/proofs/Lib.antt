@@ -1,3 +1,4 @@
--- The law and the worked examples.
+-- The laws and the worked examples.
 mod Examples
 mod Noticed
+mod Step

@@ -1,0 +1,22 @@
+-- `steps::write_word` meets its contract: an inactive card stays, an active one takes the effect and settles. Assumes nothing.
+use borrow.Author.Tests.{not-true, not-false}
+use Rattle.card_rules.specs.View.{view}
+use Rattle.card_rules.specs.Access.{WriteWord, effect}
+use Rattle.card_rules.proofs.StepKeeps.{word_keeps}
+use Rattle.card_rules.proofs.StepEnds.{unsettled, settled_as, stands-ones, written_as}
+use Rattle.steps.proofs.write_word.Goals as goal
+
+pub returns-then-not-c : goal.returns-then-not-c
+returns-then-not-c c = stands-ones c.args.c _ _ c.requires.0 (WriteWord c.args.o c.args.v) (not-true _ c.if-not-c.true)
+
+pub write_word-with_word-requires : goal.write_word-with_word-requires
+write_word-with_word-requires c = c.requires
+
+pub settle-requires : goal.settle-requires
+settle-requires c =
+    unsettled _ _ _ _ c.write_word-with_word.ensures (word_keeps (view c.args.c c.args.ram.now c.args.dir.now) c.requires.0.calm _ _)
+
+pub returns : goal.returns
+unfolding effect
+returns c =
+    written_as (WriteWord c.args.o c.args.v) c.args.c _ _ _ _ _ (not-false _ c.if-not-c.false) (settled_as _ _ _ _ _ c.write_word-with_word.ensures c.settle.ensures)

@@ -1,10 +1,8 @@
--- Laws of words and lines: how far a search for a character has come, how a name is read, and which kinds have a byte string. Assumes nothing.
+-- Laws of words and lines: how far a search for a character has come, how a name is read, and what a line without a byte string spells. Assumes nothing.
 use Prim.Native.Nat.{ℕ, suc, ◌+◌, ◌-◌, ◌*◌, ◌/◌, ◌%◌, ◌≤◌, ◌<◌}
 use mathlib.Core.Path.{◌≡◌, refl, ap, sym, subst⁻¹, ◌∙◌}
 use mathlib.Core.Bool.{Bool, true, false, cond, ◌&&◌}
 use lib.Dec.{ltb, leb, eqb}
-use types.Run.{OneOf, miss}
-use denote.Enum.Declared.{tag_of}
 use mathlib.Core.List.{List, [], ◌∷◌}
 use native.Mathlib.Omega.{arith}
 use native.Mathlib.Numerals.{add-one}
@@ -15,7 +13,6 @@ use Rattle.bench_rules.specs.Text.{is_hex, is_pairs, bytes_of, Paired}
 use Rattle.bench_rules.specs.declared.Spelled.TheVariants as spelled
 use Rattle.bench_rules.specs.declared.Kind.{Kind}
 use Rattle.bench_rules.specs.declared.Line.{Line}
-use Rattle.bench_rules.specs.contracts.Kind.{the_type}
 use Rattle.bench_rules.specs.declared.Kind.TheVariants as kind
 use Rattle.bench_rules.specs.Script.{is_of, reach_of, word_of, next_of, begun_of, key_on, key_of, kind_of, count_of, operand_of, flag_of, line_of, nothing_line, unknown_line, plain_line, number_line, pair_line, triple_line, flag_line, exact_line, counted_line, byte_line, numbers_line, operand_line, words_line, Spells, Means}
 
@@ -191,66 +188,11 @@ numbers_short kind.Open count one two three = triple_short kind.Open 16 65535 co
 numbers_short kind.Send count one two three = unknown_short
 numbers_short kind.Service count one two three = number_short kind.Service 10 count one
 
--- The tags of the kinds that have no byte string, and of those that have no numbers.
-abbrev numeric : List ℕ
-numeric = 0 ∷ 1 ∷ 4 ∷ 5 ∷ 6 ∷ 7 ∷ 10 ∷ 11 ∷ 12 ∷ 13 ∷ 14 ∷ 15 ∷ 16 ∷ 17 ∷ 18 ∷ 20 ∷ []
-
-abbrev others : List ℕ
-others = 0 ∷ 1 ∷ 2 ∷ 3 ∷ 8 ∷ 9 ∷ 19 ∷ []
-
-operands_rest : (k : Kind) (count room : ℕ) (one two three : List ℕ) → OneOf numeric (tag_of the_type k) → numbers_line k count one two three ≡ operand_line k count room one two three
-unfolding operand_line
-operands_rest kind.Nothing count room one two three h = refl
-operands_rest kind.Unknown count room one two three h = refl
-operands_rest kind.Power count room one two three h = absurd (miss numeric 2 tt h)
-operands_rest kind.Join count room one two three h = absurd (miss numeric 3 tt h)
-operands_rest kind.ReadWord count room one two three h = refl
-operands_rest kind.ReadByte count room one two three h = refl
-operands_rest kind.WriteWord count room one two three h = refl
-operands_rest kind.WriteByte count room one two three h = refl
-operands_rest kind.Start count room one two three h = absurd (miss numeric 8 tt h)
-operands_rest kind.Bytes count room one two three h = absurd (miss numeric 9 tt h)
-operands_rest kind.End count room one two three h = refl
-operands_rest kind.Sent count room one two three h = refl
-operands_rest kind.Collided count room one two three h = refl
-operands_rest kind.RxStatus count room one two three h = refl
-operands_rest kind.IdWrite count room one two three h = refl
-operands_rest kind.IdRead count room one two three h = refl
-operands_rest kind.Search count room one two three h = refl
-operands_rest kind.Activate count room one two three h = refl
-operands_rest kind.Open count room one two three h = refl
-operands_rest kind.Send count room one two three h = absurd (miss numeric 19 tt h)
-operands_rest kind.Service count room one two three h = refl
-
-pub numbers_rest : (k : Kind) (count : ℕ) (one two three : List ℕ) → OneOf others (tag_of the_type k) → unknown_line ≡ numbers_line k count one two three
-unfolding numbers_line
-numbers_rest kind.Nothing count one two three h = refl
-numbers_rest kind.Unknown count one two three h = refl
-numbers_rest kind.Power count one two three h = refl
-numbers_rest kind.Join count one two three h = refl
-numbers_rest kind.ReadWord count one two three h = absurd (miss others 4 tt h)
-numbers_rest kind.ReadByte count one two three h = absurd (miss others 5 tt h)
-numbers_rest kind.WriteWord count one two three h = absurd (miss others 6 tt h)
-numbers_rest kind.WriteByte count one two three h = absurd (miss others 7 tt h)
-numbers_rest kind.Start count one two three h = refl
-numbers_rest kind.Bytes count one two three h = refl
-numbers_rest kind.End count one two three h = absurd (miss others 10 tt h)
-numbers_rest kind.Sent count one two three h = absurd (miss others 11 tt h)
-numbers_rest kind.Collided count one two three h = absurd (miss others 12 tt h)
-numbers_rest kind.RxStatus count one two three h = absurd (miss others 13 tt h)
-numbers_rest kind.IdWrite count one two three h = absurd (miss others 14 tt h)
-numbers_rest kind.IdRead count one two three h = absurd (miss others 15 tt h)
-numbers_rest kind.Search count one two three h = absurd (miss others 16 tt h)
-numbers_rest kind.Activate count one two three h = absurd (miss others 17 tt h)
-numbers_rest kind.Open count one two three h = absurd (miss others 18 tt h)
-numbers_rest kind.Send count one two three h = refl
-numbers_rest kind.Service count one two three h = absurd (miss others 20 tt h)
-
-pub numbers_line_lem : {r : Line} (k : Kind) (count : ℕ) (one two three bytes : List ℕ) → OneOf numeric (tag_of the_type k) → r ≡ numbers_line k count one two three → Spells (operand_line k count (length bytes) one two three) one (length bytes) r bytes
+pub numbers_line_lem : {r : Line} (k : Kind) (count : ℕ) (one two three bytes : List ℕ) → numbers_line k count one two three ≡ operand_line k count (length bytes) one two three → r ≡ numbers_line k count one two three → Spells (operand_line k count (length bytes) one two three) one (length bytes) r bytes
 numbers_line_lem {r} k count one two three bytes h e =
     let z : r.len ≡ 0 = rw e (numbers_short k count one two three).short in
     record {
-      meaning = e ∙ operands_rest k count (length bytes) one two three h;
+      meaning = e ∙ h;
       spelled = rw z refl;
       fits = omega arith;
       long = refl;

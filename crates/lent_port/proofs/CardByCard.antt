@@ -6,21 +6,21 @@ use mathlib.Core.Bool.{Bool, true, false, cond, not, ◌&&◌}
 use mathlib.Core.List.{List, [], ◌∷◌, map}
 use mathlib.Core.Logic.{inl, inr}
 use native.Mathlib.Omega.{arith}
-use lib.Dec.{eqb, ltb}
+use lib.Dec.{eqb}
 use lib.ListN.{length, get_or}
 use borrow.Author.Tests.{lt-ltb, eq-eqb, ne_eqb, eqb-true, eqb-false, not-false}
 use Rattle.port_rules.specs.declared.IdState.{IdState}
-use Rattle.port_rules.specs.Card.{id_write, id_after_read}
+use Rattle.port_rules.specs.Card.{id_write}
 use Rattle.port_rules.specs.Port.{Talk, done, Ran, run}
 use Rattle.port_rules.specs.Search.{put, puts, id_bytes, call_up, read_address, rounds, search, activate, all_ones}
 use Rattle.port_rules.specs.Leads.{Leads, on, stay}
-use Rattle.found.specs.Theorems.{All, word_at, station, Here, Kept, keeping}
+use Rattle.found.specs.Theorems.{All, word_at, station, Here, Kept}
 use Rattle.found.specs.OneCard.{wrote, heard}
-use Rattle.found.proofs.Run.{map-map, map_same, map-eq, all_map, all_both, all_all, writes, writes_all}
+use Rattle.found.proofs.Run.{map-map, map_same, map-eq, all_map, all_both, writes, writes_all}
 use Rattle.found.proofs.Called.{called, obeying, id_bytes-length}
 use Rattle.found.proofs.Contend.{Some, heard_mute}
 use Rattle.found.proofs.Round.{Readable, Rival, Tagged, judged, round, round_none, idle, now3, ends, After, Ended, was, took, waits, asked, obeying_drives}
-use Rattle.found.proofs.Rounds.{Least, nobody, this, least as lowest, costs, costs_on}
+use Rattle.found.proofs.Rounds.{Least, nobody, this, least as lowest, costs_on}
 use Rattle.found.proofs.Found.{clears}
 use Rattle.lent_port.specs.Roll.{called_up, hears, away, takes_part, Worded, least, struck, found, rounds_cost, through, searched_by, activated_by}
 use Rattle.lent_port.proofs.Aside.{away-write, away-read, present, aside}

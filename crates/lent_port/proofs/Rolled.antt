@@ -1,6 +1,6 @@
 -- A search: what a look at the first i cards has entered on the roll, and what the steps of all come to.
 -- Assumes nothing.
-use Prim.Native.Nat.{ℕ, zero, suc, ◌+◌, ◌-◌, ◌<◌, ◌≤◌, min}
+use Prim.Native.Nat.{ℕ, suc, ◌+◌, ◌-◌, ◌<◌, ◌≤◌, min}
 use mathlib.Core.Path.{◌≡◌, refl, sym, ap, subst, ◌∙◌}
 use mathlib.Core.Bool.{Bool, true, false, cond, ◌&&◌}
 use mathlib.Core.List.{List, [], ◌∷◌, ◌++◌, map}
@@ -12,7 +12,6 @@ use lib.Seq.{take_all, take-suc, take_at, set_out}
 use borrow.Author.Tests.{ltb-true, ltb-false}
 use Rattle.port_rules.specs.declared.IdState.{IdState}
 use Rattle.port_rules.specs.declared.Listed.{Listed}
-use Rattle.port_rules.specs.Sound.{id_sound}
 use Rattle.port_rules.specs.Port.{held, run}
 use Rattle.port_rules.specs.Search.{search, all_ones}
 use Rattle.port_rules.specs.Calls.{refused, told, found_reply, padded, all_sound, allowed, digit_of, judged, ended, searched, finds_cards}

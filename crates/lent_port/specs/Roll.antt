@@ -1,6 +1,6 @@
 -- The search card by card: the address with which each card takes part, what the bus carries in each round, and what the rounds make of one card. A port is its x in 1x0h.
 -- Assumes nothing.
-use Rattle.std.specs.Prelude.{ℕ, zero, suc, min, ◌+◌, ◌-◌, ◌*◌, ◌/◌, ◌%◌, ◌<◌, Bool, cond, not, ◌&&◌, List, [], ◌∷◌, map, eqb, ltb, length}
+use Rattle.std.specs.Prelude.{ℕ, zero, suc, min, ◌+◌, ◌-◌, ◌*◌, ◌/◌, ◌%◌, ◌<◌, Bool, cond, not, ◌&&◌, List, [], ◌∷◌, map, eqb, ltb}
 use Rattle.port_rules.specs.declared.IdState.{IdState}
 use Rattle.port_rules.specs.Card.{id_write}
 use Rattle.port_rules.specs.Search.{id_bytes, all_ones}

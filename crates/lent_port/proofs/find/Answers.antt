@@ -1,0 +1,25 @@
+-- `find` meets its contract: the look at all cards tells what is done, and each card is stepped where it stands.
+-- Assumes nothing.
+use Rattle.std.proofs.Common.{refl, arith}
+use Rattle.bits.specs.UpTo.{up_to}
+use Rattle.bits.proofs.UpTo.{upTo_turn}
+use Rattle.lent_port.proofs.Rolled.{rolled_none, rolled_next, found-ends}
+use Rattle.lent_port.proofs.find.Goals as goal
+
+pub loop-i-init : goal.loop-i-init
+loop-i-init c = rolled_none _ _ _ c.begin-seen.ensures
+
+pub loop-i-preserved : goal.loop-i-preserved
+loop-i-preserved c = rolled_next _ _ _ _ _ _ c.loop-i-test.true c.loop-i.invariant c.at-seen.ensures
+
+pub loop-j-init : goal.loop-j-init
+unfolding up_to
+loop-j-init c = refl
+
+pub loop-j-preserved : goal.loop-j-preserved
+loop-j-preserved c = upTo_turn _ _ _ _ _ _ c.loop-j.invariant c.searched.ensures
+
+pub returns : goal.returns
+returns c =
+    rw c.loop-j.invariant
+    (found-ends _ _ _ _ _ _ _ c.loop-i.invariant c.loop-i-test.false c.search-finding.ensures (omega arith) c.found_answer.ensures)

@@ -2,9 +2,8 @@
 use mathlib.Core.Path.{◌≡◌, refl, sym, ap, ◌∙◌}
 use mathlib.Core.List.{List}
 use Prim.Native.Nat.{ℕ, zero, suc}
-use lib.ListN.{length, take}
+use lib.ListN.{length}
 use Rattle.image_rules.specs.Image.{check_of}
-use Rattle.image_rules.specs.declared.Text.{Text}
 use Rattle.image_rules.specs.Line.{line_of, Says}
 use Rattle.transmit_rules.specs.Leave.{told_of}
 use Rattle.card_rules.specs.declared.Card.{Card}

@@ -28,7 +28,6 @@ use Rattle.card_rules.specs.View.{view, sound_card}
 use Rattle.card_rules.specs.declared.AfterRead.{AfterRead}
 use Rattle.card_rules.specs.declared.AfterCall.{AfterCall}
 use Rattle.card_rules.specs.declared.AfterSuccess.{AfterSuccess}
-use Rattle.card_rules.specs.declared.Read.{Read}
 use Rattle.card_rules.specs.Calls.{Reply, refused, value, replying, read_reply, done_reply, told_reply, judged, is_word, is_byte, on_wire, off_wire}
 use Rattle.card_rules.specs.Line.{interrupt_line}
 use Rattle.card_rules.specs.RxStatus.{rx_told}

@@ -1,12 +1,12 @@
 -- Pieces of a file: the bytes between two places, and the fields from a place on.
 -- Assumes nothing.
 use Prim.Native.Nat.{ℕ, ◌+◌, ◌-◌}
-use mathlib.Core.Path.{◌≡◌, refl, sym, ap, ap₂, ◌∙◌}
+use mathlib.Core.Path.{◌≡◌, refl, ap, ap₂, ◌∙◌}
 use mathlib.Core.List.{List, [], ◌∷◌, ◌++◌, append_assoc}
 use native.Mathlib.Omega.{arith}
 use lib.ListN.{length, take, drop, length-append}
 use lib.Seq.{take_at, drop_at}
-use Rattle.catalogue_rules.specs.Field.{Field, written, bytes_of, fields_of}
+use Rattle.catalogue_rules.specs.Field.{Field, bytes_of, fields_of}
 use Rattle.catalogue_rules.proofs.Append.{bytes-append}
 use Rattle.catalogue_rules.specs.Reading.{count_field}
 use Rattle.catalogue_rules.specs.RoundTrip.{Sizes}

@@ -8,7 +8,6 @@ use Rattle.bits.proofs.Tests.{never}
 use Rattle.transmit_rules.specs.Whole.{bytes_of}
 use Rattle.card_rules.specs.Access.{ReadWord, WriteWord, access}
 use Rattle.card_rules.specs.View.{sound_card}
-use Rattle.card_rules.specs.declared.AfterRead.{AfterRead}
 use Rattle.card_rules.specs.Calls as card
 use Rattle.card_rules.specs.Calls.{Reply, judged, replying, read_reply}
 use Rattle.driver_rules.specs.Registers.{data_port}

@@ -1,11 +1,10 @@
 -- The bench table's card is what the ID port makes of a power-on card. Assumes nothing.
 use mathlib.Core.Path.{◌≡◌, refl}
 use mathlib.Core.List.{List, [], ◌∷◌, ◌++◌, map}
-use Prim.Native.Nat.{ℕ, ◌<◌}
+use Prim.Native.Nat.{ℕ}
 use native.Mathlib.Omega.{arith}
-use lib.Bits.{bit_xor}
 use lib.ListN.{replicate}
-use Rattle.port_rules.specs.Card.{activated, id_write, id_wait, id_command, expected}
+use Rattle.port_rules.specs.Card.{id_write, id_wait, id_command, expected}
 use Rattle.port_rules.specs.Sequence.{id_byte, id_next}
 use Rattle.receive_rules.specs.Early.{early_flag, told_flag}
 use Rattle.receive_rules.specs.Reading.{complete}

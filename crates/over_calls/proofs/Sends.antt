@@ -1,5 +1,5 @@
 -- The calls take the steps, and the steps carry the sends. Assumes nothing.
-use mathlib.Core.Path.{◌≡◌, ap, sym, ◌∙◌, subst⁻¹}
+use mathlib.Core.Path.{ap, sym, ◌∙◌, subst⁻¹}
 use mathlib.Core.List.{◌++◌, map}
 use Rattle.transmit_rules.specs.Leave as leave
 use Rattle.sends_carried.specs.Packets.{packets, Clear, gone, on_wire}
@@ -14,8 +14,8 @@ sends_over_calls_lem es s t says g clear bytes calls =
     let c = carried es (seen s) bytes clear in
     record {
       in_order = c.in_order ∙ ap (λ b. map (λ x. x.packet) (gone es (seen s)) ++ packets b) (sym p.leaves);
-      on_wire_is = ap on_wire p.answers ∙ c.on-wire;
-      byte_for_byte = λ none all. (λ i. on_wire (p.answers i) ++ map leave.told (packets (p.leaves i))) ∙ c.byte-for-byte none all;
+      on_wire_is = ap on_wire p.answers ∙ c.on_wire_is;
+      byte_for_byte = λ none all. (λ i. on_wire (p.answers i) ++ map leave.told (packets (p.leaves i))) ∙ c.byte_for_byte none all;
       good = p.good;
       clear = subst⁻¹ Clear p.leaves c.clear;
     }

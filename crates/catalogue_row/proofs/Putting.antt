@@ -2,10 +2,10 @@
 -- Assumes nothing.
 use Prim.Native.Nat.{ℕ, zero, suc, ◌+◌, ◌*◌, ◌-◌, ◌≤◌, ◌<◌}
 use mathlib.Core.Path.{◌≡◌, refl, sym, ap, ap₂, ◌∙◌}
-use mathlib.Core.List.{List, [], ◌∷◌, ◌++◌, append_assoc}
+use mathlib.Core.List.{List, [], ◌∷◌, ◌++◌}
 use native.Mathlib.Omega.{arith}
 use lib.ListN.{length, take, drop, length-append, length-take, length-drop}
-use Rattle.catalogue_rules.specs.Field.{Field, field, written, bytes_of}
+use Rattle.catalogue_rules.specs.Field.{Field, field, bytes_of}
 use Rattle.catalogue_rules.proofs.Append.{bytes-append}
 use Rattle.catalogue_rules.specs.Reading.{count_field, file_of}
 use Rattle.catalogue_rules.specs.Archive.{address_in, moved_in}

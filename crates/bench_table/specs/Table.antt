@@ -1,5 +1,5 @@
 -- The bench table of document 01: every figure, in its order, with request 3's. Assumes nothing.
-use Rattle.std.specs.Prelude.{◌≡◌, Bool, true, false, List, [], ◌∷◌, ◌++◌, map, ℕ, ◌-◌, ℤ, negsuc, length, replicate}
+use Rattle.std.specs.Prelude.{◌≡◌, Bool, true, false, List, [], ◌∷◌, ◌++◌, map, ℕ, ◌-◌, ℤ, negsuc, replicate}
 use Rattle.port_rules.specs.Sequence.{id_byte}
 use Rattle.port_rules.specs.Search.{id_bytes}
 use Rattle.found.specs.Theorems.{TheSearchCosts}

@@ -2,7 +2,7 @@
 use crate::files;
 use std::fs::File;
 use std::io::ErrorKind;
-use std::{io, thread};
+use std::{hint, io};
 
 // How often a lock that stands is tried again, within a tenth of a second: a change takes some thousandths.
 const TRIES: usize = 50000;
@@ -16,7 +16,7 @@ fn made(rt: &HostRuntime, name: &[u8]) -> io::Result<File> {
             Err(why) if why.kind() == ErrorKind::AlreadyExists => {}
             Err(why) => return Err(why),
         }
-        thread::yield_now();
+        hint::spin_loop();
         left = left - 1;
     }
     files::create(rt, name)

@@ -1,3 +1,2 @@
 --
-pub mod LentPart
 pub mod Lender

@@ -1,4 +1,4 @@
-// Each call over a bus with a place for each of its cards: the cards that are there are lent where they lie, as a slice, and what the call over the slice answers is joined to the bus.
+// Each call over a bus with a place for each of its cards: the cards that are there are lent as a slice, and what the call over the slice leaves and answers is joined to the places past them.
 ghost use Rattle.std.specs.Prelude.{◌≡◌, ◌≤◌};
 ghost use Rattle.port_rules.specs.PortContracts as contract;
 
@@ -20,9 +20,15 @@ pub fn write(b: Bus, port: u16, byte: u8) -> AfterWrite
     ensures { contract.PortWrite b port byte result }
 {
     let n = b.count;
-    let mut next = b;
-    let answer = lent_port::write(&mut next.cards[..n], port, byte);
-    after_write(next, answer)
+    let mut cards = b.cards;
+    let answer = lent_port::write(&mut cards[..n], port, byte);
+    after_write(
+        Bus {
+            cards: cards,
+            count: n,
+        },
+        answer,
+    )
 }
 
 fn after_read(bus: Bus, answer: Bit) -> AfterRead
@@ -39,9 +45,15 @@ pub fn read(b: Bus, port: u16) -> AfterRead
     ensures { contract.PortRead b port result }
 {
     let n = b.count;
-    let mut next = b;
-    let answer = lent_port::read(&mut next.cards[..n], port);
-    after_read(next, answer)
+    let mut cards = b.cards;
+    let answer = lent_port::read(&mut cards[..n], port);
+    after_read(
+        Bus {
+            cards: cards,
+            count: n,
+        },
+        answer,
+    )
 }
 
 fn after_find(bus: Bus, found: Listed) -> AfterSearch
@@ -61,9 +73,15 @@ pub fn find(b: Bus, port: u16) -> AfterSearch
     ensures { contract.FindCards b port result }
 {
     let n = b.count;
-    let mut next = b;
-    let answer = lent_port::find(&mut next.cards[..n], port);
-    after_find(next, answer)
+    let mut cards = b.cards;
+    let answer = lent_port::find(&mut cards[..n], port);
+    after_find(
+        Bus {
+            cards: cards,
+            count: n,
+        },
+        answer,
+    )
 }
 
 fn after_activate(bus: Bus, answer: Activation) -> AfterActivation
@@ -80,7 +98,13 @@ pub fn activate(b: Bus, port: u16, tag: u8, base: u8) -> AfterActivation
     ensures { contract.ActivateCard b port tag base result }
 {
     let n = b.count;
-    let mut next = b;
-    let answer = lent_port::activate(&mut next.cards[..n], port, tag, base);
-    after_activate(next, answer)
+    let mut cards = b.cards;
+    let answer = lent_port::activate(&mut cards[..n], port, tag, base);
+    after_activate(
+        Bus {
+            cards: cards,
+            count: n,
+        },
+        answer,
+    )
 }

@@ -1,0 +1,8 @@
+-- `find_cards` meets its contract: what the lender answers, or the refusal of a bus of more cards than places.
+-- Assumes nothing.
+use Rattle.std.proofs.Common.{arith}
+use Rattle.port.proofs.Lender.{crowded}
+use Rattle.port.proofs.find_cards.Goals as goal
+
+pub returns : goal.returns
+returns c = crowded _ _ (omega arith) _ (λ e. e) _ _ c.too_many-why.ensures

@@ -1,0 +1,10 @@
+-- `lend::activate` meets its contract: what the call over the slice leaves, joined to the places past it, is the call by value.
+-- Assumes nothing.
+use Rattle.std.proofs.Common.{◌≡◌, length, rules}
+use Rattle.port.proofs.Lender.{activated-lent}
+use Rattle.port.proofs.lend.activate.Goals as goal
+
+pub returns : goal.returns
+returns c =
+    let l : length c.args.b.cards ≡ 8 = search rules in
+    activated-lent c.args.b c.args.port _ _ c.requires l _ _ _ c.activate-answer.ensures c.after_activate.ensures

@@ -15,6 +15,7 @@ pub fn byte_at(file: &[u8], at: usize) -> u8
 }
 
 // The field at a place.
+#[tactic(auto, using(catalogue_rules::proofs::At::cut_value))]
 pub fn field_at(file: &[u8], at: usize) -> Found
     ensures { result ≡ found_at file.now at }
 {

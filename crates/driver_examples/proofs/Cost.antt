@@ -15,7 +15,7 @@ pub frame-cost : WhatAGoodFrameCosts
 unfolding run look_talk fetch_talk
 frame-cost =
     record {
-      of-any =
+      of_any =
           λ left d s s₁ s₂ v rx e₁ e₂ fit none some good enough.
           rw (e₁, fit, none, some, e₂, good, le-ltb left (words_in (length_in rx) + 1) enough, reads_law)
           (simp (length-append, length-replicate) (omega arith));

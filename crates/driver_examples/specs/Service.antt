@@ -74,7 +74,7 @@ pub record AFrameOf1514Bytes : Type 0 where
 
 -- Any good frame costs Status, RX Status, its words and the discard.
 pub record WhatAGoodFrameCosts : Type 0 where
-  pub of-any :
+  pub of_any :
       (left : ℕ) (d : Driver) (s s₁ s₂ : Adapter) (v rx : ℕ) → access (ReadWord 14) s ≡ step v s₁ → access (ReadWord 8) s₁ ≡ step rx s₂
       → status.unfit v ≡ false → status.tx_complete v ≡ false → status.rx_complete v ≡ true → bad rx ≡ false → words_in (length_in rx) + 1 ≤ left
       → length (run (look_talk (suc (suc left)) d) s).made ≡ words_in (length_in rx) + 3

@@ -1,5 +1,6 @@
 // Files by name: read whole, and replaced whole; - is standard input or output. What fails is said on standard error.
-ghost use Rattle.std.specs.Prelude.{◌≡◌, ◌+◌, ◌<◌, ◌≤◌, length, slice_index};
+ghost use Rattle.std.specs.Prelude.{◌≡◌, ◌+◌, ◌≤◌, length, slice_index};
+ghost use Rattle.io.specs.Counts.{IsPrefixLen};
 
 use crate::file_mode;
 use std::fs::{File, OpenOptions, Permissions};
@@ -35,7 +36,7 @@ struct Taken {
 
 // Reads as much as the room holds. One byte more tells a read that failed, a folder's too, and a file that goes on.
 fn take<R: Read>(from: &mut R, room: &mut [u8]) -> Taken
-    ensures { result.len ≤ length room.new }
+    ensures { IsPrefixLen result.len room.new }
 {
     let len = host::read_full(from, room);
     let mut next = [0u8; 1];
@@ -75,7 +76,7 @@ fn nothing() -> Got
 
 // The same as `take`, and says what failed.
 fn take_of<R: Read>(rt: &HostRuntime, what: &[u8], from: &mut R, room: &mut [u8]) -> Got
-    ensures { result.len ≤ length room.new }
+    ensures { IsPrefixLen result.len room.new }
 {
     let taken = take(from, room);
     if let Err(why) = taken.next {
@@ -86,7 +87,7 @@ fn take_of<R: Read>(rt: &HostRuntime, what: &[u8], from: &mut R, room: &mut [u8]
 
 // Reads the start of a file, as much as the room holds; - is standard input.
 pub fn read_start(rt: &HostRuntime, path: &[u8], room: &mut [u8]) -> Got
-    ensures { result.len ≤ length room.new }
+    ensures { IsPrefixLen result.len room.new }
 {
     if catalogue_text::is_dash(path) {
         return take_of(rt, b"standard input", &mut rt.stdin(), room);
@@ -102,7 +103,7 @@ pub fn read_start(rt: &HostRuntime, path: &[u8], room: &mut [u8]) -> Got
 
 // Reads a whole file. One that the room does not hold is refused.
 pub fn read(rt: &HostRuntime, path: &[u8], room: &mut [u8]) -> Got
-    ensures { result.len ≤ length room.new }
+    ensures { IsPrefixLen result.len room.new }
 {
     let got = read_start(rt, path, room);
     if got.more {
@@ -118,7 +119,7 @@ pub fn read(rt: &HostRuntime, path: &[u8], room: &mut [u8]) -> Got
 
 // Looks into the start of a file that may be missing, and says nothing.
 pub fn peek(rt: &HostRuntime, path: &[u8], room: &mut [u8]) -> Got
-    ensures { result.len ≤ length room.new }
+    ensures { IsPrefixLen result.len room.new }
 {
     match host::open(rt, path) {
         Ok(mut file) => got_of(take(&mut file, room)),
@@ -333,7 +334,7 @@ fn flush(rt: &HostRuntime, folder: &[u8]) {
 
 // How many bytes of a path name its folder, the last slash among them.
 fn folder(path: &[u8]) -> usize
-    ensures { result ≤ length path.now }
+    ensures { IsPrefixLen result path.now }
 {
     let mut n = path.len();
     while 0 < n {

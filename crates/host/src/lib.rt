@@ -1,7 +1,8 @@
 #![tactic(auto)]
 // What the programs ask of the system beside std: their arguments counted, files by names of bytes, a room filled, and what
 // failed told in the system's words. Proved safe and ending; what is written is tested.
-ghost use Rattle.std.specs.Prelude.{◌≤◌, length, IfOk};
+ghost use Rattle.std.specs.Io.{ReadsAtMost};
+ghost use Rattle.io.specs.Counts.{IsPrefixLen};
 
 use std::env::FillError;
 use std::fs::File;
@@ -28,7 +29,7 @@ pub fn arg_count(rt: &HostRuntime) -> usize {
 
 // Puts argument i at the start of the room and answers its length.
 pub fn arg(rt: &HostRuntime, i: usize, room: &mut [u8]) -> io::Result<usize>
-    ensures { IfOk result (λ n. n ≤ length room.new) }
+    ensures { ReadsAtMost result room.new }
 {
     match rt.arg(i, room) {
         Ok(n) => Ok(n),
@@ -52,7 +53,7 @@ pub fn open(rt: &HostRuntime, path: &[u8]) -> io::Result<File> {
 
 // Reads until the room is full, the input ends or a read fails, and answers how many bytes were put at the start of the room.
 pub fn read_full<R: Read>(from: &mut R, room: &mut [u8]) -> usize
-    ensures { result ≤ length room.new }
+    ensures { IsPrefixLen result room.new }
 {
     let mut done = 0;
     while done < room.len() {

@@ -1,6 +1,6 @@
 // Files by name: read whole, and replaced whole; - is standard input or output. What fails is said on standard error.
 ghost use Rattle.std.specs.Prelude.{◌≡◌, ◌+◌, ◌≤◌, length, slice_index};
-ghost use Rattle.io.specs.Counts.{IsPrefixLen};
+ghost use Rattle.host.specs.Counts.{IsPrefixLen};
 
 use crate::file_mode;
 use std::fs::{File, OpenOptions, Permissions};

@@ -2,7 +2,7 @@
 // What the programs ask of the system beside std: their arguments counted, files by names of bytes, a room filled, and what
 // failed told in the system's words. Proved safe and ending; what is written is tested.
 ghost use Rattle.std.specs.Io.{ReadsAtMost};
-ghost use Rattle.io.specs.Counts.{IsPrefixLen};
+ghost use Rattle.host.specs.Counts.{IsPrefixLen};
 
 use std::env::FillError;
 use std::fs::File;

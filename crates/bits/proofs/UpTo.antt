@@ -8,52 +8,52 @@ use lib.ListN.{length, get_or, set, take, drop}
 use Rattle.bits.specs.UpTo.{up_to}
 
 module _ {X : Type 0} (f : X → X) where
-  pub upTo_none : (xs : List X) → up_to f 0 xs ≡ xs
+  pub up_to_none : (xs : List X) → up_to f 0 xs ≡ xs
   unfolding up_to
-  upTo_none xs = refl
+  up_to_none xs = refl
 
-  pub upTo_length : (i : ℕ) (xs : List X) → length (up_to f i xs) ≡ length xs
+  pub up_to_length : (i : ℕ) (xs : List X) → length (up_to f i xs) ≡ length xs
   unfolding up_to
-  upTo_length zero xs = refl
-  upTo_length (suc i) [] = refl
-  upTo_length (suc i) (x ∷ xs) = ap suc (upTo_length i xs)
+  up_to_length zero xs = refl
+  up_to_length (suc i) [] = refl
+  up_to_length (suc i) (x ∷ xs) = ap suc (up_to_length i xs)
 
   -- one more
-  pub upTo_next : (i : ℕ) (xs : List X) (d : X) → set (up_to f i xs) i (f (get_or (up_to f i xs) i d)) ≡ up_to f (suc i) xs
+  pub up_to_next : (i : ℕ) (xs : List X) (d : X) → set (up_to f i xs) i (f (get_or (up_to f i xs) i d)) ≡ up_to f (suc i) xs
   unfolding up_to
-  upTo_next zero [] d = refl
-  upTo_next zero (x ∷ xs) d = refl
-  upTo_next (suc i) [] d = refl
-  upTo_next (suc i) (x ∷ xs) d = ap (λ (l : List X). f x ∷ l) (upTo_next i xs d)
+  up_to_next zero [] d = refl
+  up_to_next zero (x ∷ xs) d = refl
+  up_to_next (suc i) [] d = refl
+  up_to_next (suc i) (x ∷ xs) d = ap (λ (l : List X). f x ∷ l) (up_to_next i xs d)
 
   -- all
-  pub upTo_all : (i : ℕ) (xs : List X) → length xs ≤ i → up_to f i xs ≡ map f xs
+  pub up_to_all : (i : ℕ) (xs : List X) → length xs ≤ i → up_to f i xs ≡ map f xs
   unfolding up_to
-  upTo_all zero [] h = refl
-  upTo_all zero (x ∷ xs) h = absurd (not-suc-le-zero h)
-  upTo_all (suc i) [] h = refl
-  upTo_all (suc i) (x ∷ xs) h = ap (λ (l : List X). f x ∷ l) (upTo_all i xs (le_of_suc-le-suc h))
+  up_to_all zero [] h = refl
+  up_to_all zero (x ∷ xs) h = absurd (not-suc-le-zero h)
+  up_to_all (suc i) [] h = refl
+  up_to_all (suc i) (x ∷ xs) h = ap (λ (l : List X). f x ∷ l) (up_to_all i xs (le_of_suc-le-suc h))
 
   -- a turn of a loop that steps the element at i
-  pub upTo_turn : (i : ℕ) (xs l : List X) (d r : X) → l ≡ up_to f i xs → r ≡ f (get_or l i d) → set l i r ≡ up_to f (i + 1) xs
-  upTo_turn i xs l d r e h = ap (set l i) h ∙ ap (λ (k : List X). set k i (f (get_or k i d))) e ∙ upTo_next i xs d ∙ ap (λ (j : ℕ). up_to f j xs) (sym (add-one i))
+  pub up_to_turn : (i : ℕ) (xs l : List X) (d r : X) → l ≡ up_to f i xs → r ≡ f (get_or l i d) → set l i r ≡ up_to f (i + 1) xs
+  up_to_turn i xs l d r e h = ap (set l i) h ∙ ap (λ (k : List X). set k i (f (get_or k i d))) e ∙ up_to_next i xs d ∙ ap (λ (j : ℕ). up_to f j xs) (sym (add-one i))
 
   -- the first n, after n turns
-  pub upTo_take : (n : ℕ) (xs : List X) → take n (up_to f n xs) ≡ map f (take n xs)
+  pub up_to_take : (n : ℕ) (xs : List X) → take n (up_to f n xs) ≡ map f (take n xs)
   unfolding up_to
-  upTo_take zero xs = refl
-  upTo_take (suc n) [] = refl
-  upTo_take (suc n) (x ∷ xs) = ap (λ (l : List X). f x ∷ l) (upTo_take n xs)
+  up_to_take zero xs = refl
+  up_to_take (suc n) [] = refl
+  up_to_take (suc n) (x ∷ xs) = ap (λ (l : List X). f x ∷ l) (up_to_take n xs)
 
-  pub upTo_ends : (n i k : ℕ) (xs l : List X) → i ≡ n → k ≡ n → l ≡ up_to f i xs → take k l ≡ map f (take n xs)
-  upTo_ends n i k xs l e h q = (λ j. take (h j) (q j)) ∙ ap (λ (m : ℕ). take n (up_to f m xs)) e ∙ upTo_take n xs
+  pub up_to_ends : (n i k : ℕ) (xs l : List X) → i ≡ n → k ≡ n → l ≡ up_to f i xs → take k l ≡ map f (take n xs)
+  up_to_ends n i k xs l e h q = (λ j. take (h j) (q j)) ∙ ap (λ (m : ℕ). take n (up_to f m xs)) e ∙ up_to_take n xs
 
   -- what stands past them
-  pub upTo_drop : (n : ℕ) (xs : List X) → drop n (up_to f n xs) ≡ drop n xs
+  pub up_to_drop : (n : ℕ) (xs : List X) → drop n (up_to f n xs) ≡ drop n xs
   unfolding up_to
-  upTo_drop zero xs = refl
-  upTo_drop (suc n) [] = refl
-  upTo_drop (suc n) (x ∷ xs) = upTo_drop n xs
+  up_to_drop zero xs = refl
+  up_to_drop (suc n) [] = refl
+  up_to_drop (suc n) (x ∷ xs) = up_to_drop n xs
 
-  pub upTo_past : (n i k : ℕ) (xs l : List X) → i ≡ n → k ≡ n → l ≡ up_to f i xs → drop k l ≡ drop n xs
-  upTo_past n i k xs l e h q = (λ j. drop (h j) (q j)) ∙ ap (λ (m : ℕ). drop n (up_to f m xs)) e ∙ upTo_drop n xs
+  pub up_to_past : (n i k : ℕ) (xs l : List X) → i ≡ n → k ≡ n → l ≡ up_to f i xs → drop k l ≡ drop n xs
+  up_to_past n i k xs l e h q = (λ j. drop (h j) (q j)) ∙ ap (λ (m : ℕ). drop n (up_to f m xs)) e ∙ up_to_drop n xs

@@ -27,9 +27,9 @@ is_area (no why) = eqb (number_of why) 12
 pub not_area : (change : Change) → is_area change ≡ false → change ≡ no ArgumentOutside → ⊥
 not_area change n e = never (sym n ∙ ap is_area e)
 
-pub orElse_not : (b : Bool) (why : Refusal) (rest : Change) → eqb (number_of why) 12 ≡ false → is_area rest ≡ false → is_area (or_else b why rest) ≡ false
-orElse_not true why rest w r = w
-orElse_not false why rest w r = r
+pub or_else_not : (b : Bool) (why : Refusal) (rest : Change) → eqb (number_of why) 12 ≡ false → is_area rest ≡ false → is_area (or_else b why rest) ≡ false
+or_else_not true why rest w r = w
+or_else_not false why rest w r = r
 
 -- ---- an image
 
@@ -49,9 +49,9 @@ image-not image file =
 pub images_not : (images : List (List ℕ)) (file : List ℕ) → is_area (all_sound images (bytes file)) ≡ false
 unfolding all_sound
 images_not images file =
-    orElse_not (any_for MakerWrong images) MakerWrong _ refl
-    (orElse_not (any_for ChecksumWrong images) ChecksumWrong _ refl
-    (orElse_not (any_for SecondaryWrong images) SecondaryWrong _ refl refl))
+    or_else_not (any_for MakerWrong images) MakerWrong _ refl
+    (or_else_not (any_for ChecksumWrong images) ChecksumWrong _ refl
+    (or_else_not (any_for SecondaryWrong images) SecondaryWrong _ refl refl))
 
 -- ---- a reading
 
@@ -92,12 +92,12 @@ parsed-not file f k = on-not (parsed file) f (reading-not (fields_of file) Begun
 pub added_to-not : (image : List ℕ) (fs : List Field) → is_area (added_to image fs) ≡ false
 unfolding added_to
 added_to-not image fs =
-    orElse_not (not (has_room fs) || no_place (whose image) fs) NoPlace _ refl
-    (orElse_not (any_twice (addresses_of fs)) ListedTwice _ refl (image-not image (file_of (with_added image fs))))
+    or_else_not (not (has_room fs) || no_place (whose image) fs) NoPlace _ refl
+    (or_else_not (any_twice (addresses_of fs)) ListedTwice _ refl (image-not image (file_of (with_added image fs))))
 
 pub dropped_from-not : (a : ℕ) (fs : List Field) → is_area (dropped_from a fs) ≡ false
 unfolding dropped_from
 dropped_from-not a fs =
-    orElse_not (not (is_among a (addresses_of fs))) NoSuchCard _ refl
-    (orElse_not (not (has_room fs)) NoPlace _ refl
-    (orElse_not (any_twice (addresses_of fs)) ListedTwice _ refl refl))
+    or_else_not (not (is_among a (addresses_of fs))) NoSuchCard _ refl
+    (or_else_not (not (has_room fs)) NoPlace _ refl
+    (or_else_not (any_twice (addresses_of fs)) ListedTwice _ refl refl))

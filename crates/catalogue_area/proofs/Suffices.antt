@@ -23,7 +23,7 @@ use Rattle.catalogue_rules.specs.Archive.{moved_in, moved_out, addresses_in}
 use Rattle.catalogue_rules.specs.Edit.{Change, bytes, no, or_else, on_catalogue, whose, no_version, no_card, no_place, added_to, added, dropped_from, dropped, images_in, imported, exported}
 use Rattle.catalogue_area.specs.Area.{unknown_bytes, enough, AllEight, Full, AreaSuffices}
 use Rattle.catalogue_area.proofs.Sizes.{size}
-use Rattle.catalogue_area.proofs.Refusals.{is_area, not_area, orElse_not, images_not, read-not, parsed-not, added_to-not, dropped_from-not}
+use Rattle.catalogue_area.proofs.Refusals.{is_area, not_area, or_else_not, images_not, read-not, parsed-not, added_to-not, dropped_from-not}
 
 -- ---- no refusal 12
 
@@ -46,7 +46,7 @@ module _ (area : ℕ) (file : List ℕ) (fs : List Field) (b : Bytes file) (e : 
   unfolding added
   enough_to_add image =
       behind (ltb area (length file + 145)) _ room_for_more
-      (orElse_not (not (eqb (length image) 128)) LengthOutside _ refl (parsed-not file (added_to image) (added_to-not image)))
+      (or_else_not (not (eqb (length image) 128)) LengthOutside _ refl (parsed-not file (added_to image) (added_to-not image)))
 
   enough_to_drop : (a : ℕ) → is_area (dropped area file a) ≡ false
   unfolding dropped
@@ -56,9 +56,9 @@ enough_to_import : (area : ℕ) (row : List ℕ) → 145 * (length row / 128) + 
 unfolding imported
 enough_to_import area row k =
     behind (ltb area (145 * (length row / 128) + 5)) _ (le-ltb area (145 * (length row / 128) + 5) k)
-    (orElse_not (not (eqb (length row % 128) 0)) LengthOutside _ refl
-    (orElse_not (ltb 64 (length row / 128)) NoPlace _ refl
-    (orElse_not (any_twice (addresses_in (images_in row))) ListedTwice _ refl (images_not (images_in row) (file_of (moved_in (images_in row)))))))
+    (or_else_not (not (eqb (length row % 128) 0)) LengthOutside _ refl
+    (or_else_not (ltb 64 (length row / 128)) NoPlace _ refl
+    (or_else_not (any_twice (addresses_in (images_in row))) ListedTwice _ refl (images_not (images_in row) (file_of (moved_in (images_in row)))))))
 
 enough_to_export : (area : ℕ) (file : List ℕ) → 8192 ≤ area → is_area (exported area file) ≡ false
 unfolding exported

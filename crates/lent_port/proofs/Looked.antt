@@ -27,7 +27,7 @@ use Rattle.lent_port.specs.Roll.{activated_by}
 use Rattle.lent_port.specs.Steps.{unseen, seen_with, port_fits, step_of, writing_of, reading_of, activating_of, written_by, heard_by, activated_in, reply_of, order_reply}
 use Rattle.lent_port.proofs.CardByCard.{activates}
 use Rattle.bits.specs.UpTo.{up_to}
-use Rattle.bits.proofs.UpTo.{upTo_all}
+use Rattle.bits.proofs.UpTo.{up_to_all}
 use Rattle.found.proofs.Run.{map_same}
 use Rattle.lent_port.proofs.Slices.{held-lent, seated-lent, fits-lent, write-length, read_length, unsound-lent, outside-lent, goes_lent}
 
@@ -85,7 +85,7 @@ wrote-ends port byte ys i j w t r g full e m a =
     comes (all_sound ys) (allowed (lent ys) port) ys (up_to (written_by t) j ys) (λ s. id_write s (digit_of port) byte) [] [] (padded []) (wrote_reply r) refl
     (a ∙ ap (λ (u : Step). reply_of u []) is)
     (blank (all_sound ys && allowed (lent ys) port))
-    (upTo_all (written_by t) j ys m ∙ ap (λ (u : Step). map (written_by u) ys) is)
+    (up_to_all (written_by t) j ys m ∙ ap (λ (u : Step). map (written_by u) ys) is)
     (write-length (digit_of port) byte ys)
     ∙ ap (λ (l : List IdState). judged (lent ys) (allowed (lent ys) port) (ended (lent ys) [] [] (port_write (digit_of port) byte l))) (sym (held-lent ys))
 
@@ -98,7 +98,7 @@ heard-ends port ys i j w t r g full e m a =
     comes (all_sound ys) (allowed (lent ys) port) ys (up_to (heard_by t) j ys) (λ s. id_after_read s (digit_of port) (port_bit (digit_of port) ys)) (port_bit (digit_of port) ys ∷ []) [] (padded []) (bit_reply r) refl
     (a ∙ ap (λ (u : Step). reply_of u (u.value ∷ [])) is)
     (blank (all_sound ys && allowed (lent ys) port))
-    (upTo_all (heard_by t) j ys m ∙ ap (λ (u : Step). map (heard_by u) ys) is)
+    (up_to_all (heard_by t) j ys m ∙ ap (λ (u : Step). map (heard_by u) ys) is)
     (read_length (digit_of port) ys)
     ∙ ap (λ (l : List IdState). judged (lent ys) (allowed (lent ys) port) (ended (lent ys) (port_bit (digit_of port) l ∷ []) [] (port_read (digit_of port) l))) (sym (held-lent ys))
 
@@ -151,7 +151,7 @@ activated-ends port tag base ys i j w o r g full e m a =
     comes (all_sound ys) ok ys (up_to (activated_in o) j ys) f (259 ∷ []) [] (padded []) (activation_reply r) refl
     (a ∙ ap order_reply is)
     (blank (all_sound ys && ok))
-    (upTo_all (activated_in o) j ys m ∙ ap (λ (u : Order). map (activated_in u) ys) is ∙ commands (naming tag base) x tag base ys (all_sound ys) (allowed (lent ys) port) refl)
+    (up_to_all (activated_in o) j ys m ∙ ap (λ (u : Order). map (activated_in u) ys) is ∙ commands (naming tag base) x tag base ys (all_sound ys) (allowed (lent ys) port) refl)
     (length-map ys f)
     ∙ (λ k. judged (lent ys) ok (ended (lent ys) (sym l.counted k ∷ []) [] (sym l.left k)))
     ∙ ap (λ (cs : List IdState). judged (lent ys) ok (activated (lent ys) (run x (activate tag base) cs))) (sym (held-lent ys))

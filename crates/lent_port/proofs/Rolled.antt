@@ -23,7 +23,7 @@ use Rattle.lent_port.specs.declared.roll.Finding.{Finding}
 use Rattle.lent_port.specs.Roll.{takes_part, Worded, found, rounds_cost, searched_by}
 use Rattle.lent_port.specs.Steps.{port_fits, unrolled, rolled_with, finding_of, searched_in, Lists}
 use Rattle.bits.specs.UpTo.{up_to}
-use Rattle.bits.proofs.UpTo.{upTo_all}
+use Rattle.bits.proofs.UpTo.{up_to_all}
 use Rattle.lent_port.proofs.Slices.{held-lent, fits-lent, few}
 use Rattle.lent_port.proofs.Looked.{comes}
 use Rattle.lent_port.proofs.Ones.{real_more, found_real}
@@ -154,5 +154,5 @@ found-ends port ys i j w v r g full e m a =
     let p< : digit_of port < 16 = omega arith in
     ends port ys (all_sound ys) (allowed (lent ys) port) fs v r (up_to (searched_in v) j ys) refl
     (λ q. all_entered port ys w (g.entered ∙ ap (λ (n : ℕ). map (takes_part (digit_of port)) (take (min n 8) ys) ++ replicate (8 - min n 8) all_ones) same) (few (lent ys) port q))
-    is a (upTo_all (searched_in v) j ys m)
+    is a (up_to_all (searched_in v) j ys m)
     ∙ told_by port ys (searches (digit_of port) ys p< words) (allowed (lent ys) port)

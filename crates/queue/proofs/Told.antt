@@ -44,10 +44,10 @@ pub length-zeros : (k : ℕ) → length {A = ℕ} (replicate k 0) ≡ k
 length-zeros zero = refl
 length-zeros (suc k) = ap suc (length-zeros k)
 
-pub getD_padded : (l : List ℕ) (k i : ℕ) → get_or (l ++ replicate k 0) i 0 ≡ get_or l i 0
-getD_padded [] k i = zeros k i
-getD_padded (x ∷ l) k zero = refl
-getD_padded (x ∷ l) k (suc i) = getD_padded l k i
+pub get_or_padded : (l : List ℕ) (k i : ℕ) → get_or (l ++ replicate k 0) i 0 ≡ get_or l i 0
+get_or_padded [] k i = zeros k i
+get_or_padded (x ∷ l) k zero = refl
+get_or_padded (x ∷ l) k (suc i) = get_or_padded l k i
 
 pub get_d_past : (l : List ℕ) (i : ℕ) → length l ≤ i → get_or l i 0 ≡ 0
 get_d_past [] i h = refl
@@ -71,7 +71,7 @@ pub told_more : (ram out₀ : List ℕ) (base len n i : ℕ) (out : List ℕ) (b
 told_more ram out₀ base len n i out b h k l j e T =
     let all : List ℕ = part base len ram ++ replicate (n - len) 0 in
     let len-all : length all ≡ n = padded-length ram base len n h k in
-    let d : b ≡ get_or all i 0 = e ∙ sym (getD_padded (part base len ram) (n - len) i) in
+    let d : b ≡ get_or all i 0 = e ∙ sym (get_or_padded (part base len ram) (n - len) i) in
     record {
       few = omega arith;
       long = length-set out i b ∙ T.long;

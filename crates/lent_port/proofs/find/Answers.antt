@@ -2,7 +2,7 @@
 -- Assumes nothing.
 use Rattle.std.proofs.Common.{refl, arith}
 use Rattle.bits.specs.UpTo.{up_to}
-use Rattle.bits.proofs.UpTo.{upTo_turn}
+use Rattle.bits.proofs.UpTo.{up_to_turn}
 use Rattle.lent_port.proofs.Rolled.{rolled_none, rolled_next, found-ends}
 use Rattle.lent_port.proofs.find.Goals as goal
 
@@ -17,7 +17,7 @@ unfolding up_to
 loop-j-init c = refl
 
 pub loop-j-preserved : goal.loop-j-preserved
-loop-j-preserved c = upTo_turn _ _ _ _ _ _ c.loop-j.invariant c.searched.ensures
+loop-j-preserved c = up_to_turn _ _ _ _ _ _ c.loop-j.invariant c.searched.ensures
 
 pub returns : goal.returns
 returns c =

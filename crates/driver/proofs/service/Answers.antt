@@ -1,6 +1,7 @@
 -- `driver::service`: refused, or the inner call, by the laws of Ways. Assumes nothing.
 use mathlib.Core.Path.{sym, ◌∙◌}
 use borrow.Author.Tests.{not-true, not-false}
+use native.Mathlib.Omega.{arith}
 use Rattle.driver_rules.proofs.Ways as ways
 use borrow.Author.Rules.{rules}
 use Rattle.driver.proofs.service.Goals as goal
@@ -19,12 +20,12 @@ returns-then-ahead-lt-LOOKAHEAD_AREA c =
 
 pub returns-then-frame-lt-FRAME_AREA : goal.returns-then-frame-lt-FRAME_AREA
 returns-then-frame-lt-FRAME_AREA c =
-    let A = c.args in rw c.refused-then-frame-lt-FRAME_AREA.ensures (ways.service-tight A.c A.ram.now A.dir.now A.d A.budget A.ahead.now A.frame.now (sym c.is_sound.ensures ∙ c.if-not-is_sound.false) (not-false _ c.if-not-d.false) (ways.frame-tight A.ahead.now A.frame.now c.if-ahead-lt-LOOKAHEAD_AREA.false c.if-frame-lt-FRAME_AREA.true))
+    let A = c.args in rw c.refused-then-frame-lt-FRAME_AREA.ensures (ways.service-tight A.c A.ram.now A.dir.now A.d A.budget A.ahead.now A.frame.now (sym c.is_sound.ensures ∙ c.if-not-is_sound.false) (not-false _ c.if-not-d.false) (ways.frame-tight A.ahead.now A.frame.now (omega arith) c.if-frame-lt-FRAME_AREA.true))
 
 pub serve-requires : goal.serve-requires
 serve-requires c =
-    let A = c.args in record { sound = ways.state-told A.c A.ram.now A.dir.now A.d (search rules) (search rules) (sym c.is_sound.ensures ∙ c.if-not-is_sound.false); look = c.if-ahead-lt-LOOKAHEAD_AREA.false; frame = c.if-frame-lt-FRAME_AREA.false }
+    let A = c.args in record { sound = ways.state-told A.c A.ram.now A.dir.now A.d (search rules) (search rules) (sym c.is_sound.ensures ∙ c.if-not-is_sound.false); look = omega arith; frame = c.if-frame-lt-FRAME_AREA.false }
 
 pub returns : goal.returns
 returns c =
-    let A = c.args in ways.service-run A.c A.ram.now A.dir.now A.d A.budget A.ahead.now A.frame.now (sym c.is_sound.ensures ∙ c.if-not-is_sound.false) (not-false _ c.if-not-d.false) (ways.both-large A.ahead.now A.frame.now c.if-ahead-lt-LOOKAHEAD_AREA.false c.if-frame-lt-FRAME_AREA.false) _ _ _ _ _ c.serve.ensures.0 c.serve.ensures.1.0 c.serve.ensures.1.1
+    let A = c.args in ways.service-run A.c A.ram.now A.dir.now A.d A.budget A.ahead.now A.frame.now (sym c.is_sound.ensures ∙ c.if-not-is_sound.false) (not-false _ c.if-not-d.false) (ways.both-large A.ahead.now A.frame.now (omega arith) c.if-frame-lt-FRAME_AREA.false) _ _ _ _ _ c.serve.ensures.0 c.serve.ensures.1.0 c.serve.ensures.1.1

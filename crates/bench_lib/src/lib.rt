@@ -48,14 +48,10 @@ fn newline(piece: &[u8], from: usize) -> usize
     ensures low { from ≤ result }
     ensures high { result ≤ length piece.now }
 {
-    let mut at = from;
-    while at < piece.len() {
-        if piece[at] == b'\n' {
-            return at;
-        }
-        at = at + 1;
+    match piece[from..].iter().position(|b| *b == b'\n') {
+        Some(n) => from + n,
+        None => piece.len(),
     }
-    at
 }
 
 // A piece of input: every line that it makes whole is answered.

@@ -1,6 +1,6 @@
 /* Seamtrout: a proved 3Com 3C509B, its driver, the ID port and the check of EEPROM images.
  *
- * Link crates/abi/out/libabi.a (rt lib abi). C99 or C++11.
+ * Link crates/abi/out/libabi.a (rt lib, in crates/abi). C99 or C++11.
  *
  * A `struct seamtrout` holds one card, its driver and its memory. seamtrout_power_on fills it;
  * after that only the calls below change it. Each call answers 0 for done, else the number of the

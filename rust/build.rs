@@ -1,4 +1,4 @@
-//! Links the proved archive, crates/abi/out/libabi.a of the project (rt lib abi);
+//! Links the proved archive, crates/abi/out/libabi.a of the project (rt lib, in crates/abi);
 //! SEAMTROUT_ARCHIVE names another folder.
 
 use std::path::PathBuf;

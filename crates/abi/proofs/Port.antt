@@ -1,9 +1,9 @@
 -- The ways of a call on one card's ID port, and that every step there keeps the ID state sound. Assumes nothing.
 use native.Mathlib.Omega.{arith}
 use mathlib.Core.Path.{◌≡◌, refl}
-use mathlib.Core.Bool.{Bool, true, false, cond, not, ◌&&◌}
+use mathlib.Core.Bool.{Bool, true, false, not, ◌&&◌}
 use mathlib.Core.List.{List}
-use Prim.Native.Nat.{ℕ, ◌<◌, ◌/◌, ◌%◌}
+use Prim.Native.Nat.{ℕ}
 use Rattle.bits.proofs.Tests.{both}
 use Rattle.port_rules.specs.declared.IdState.{IdState}
 use Rattle.port_rules.specs.Card.{id_write, id_bit, id_after_read}
@@ -16,8 +16,6 @@ use Rattle.card_rules.proofs.Sides.{registers_of}
 use Rattle.card_rules.specs.Event as event
 use Rattle.card_rules.specs.Calls.{judged, Does}
 use Rattle.port_rules.specs.Gathered.{is_port, digit_of}
-use Rattle.codes.specs.declared.cards.CardDone.{CardDone}
-use Rattle.abi.specs.declared.ids.CardBit.{CardBit}
 use Rattle.abi.specs.Ids.{Seated, bit_of}
 
 module _ (s ok : Bool) (i : IdState) (c : Card) (ram dir : List ℕ) where

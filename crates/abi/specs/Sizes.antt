@@ -1,15 +1,15 @@
 -- The bytes that a struct takes in memory, as the program logic lays it out. Assumes nothing.
 use Rattle.std.specs.Prelude.{ℕ}
-use prog.Memory.{size}
-use Rattle.card_rules.proofs.Card.TheLaws as card_laws
-use Rattle.port_rules.proofs.Bus.TheLaws as bus_laws
-use Rattle.driver_rules.proofs.Driver.TheLaws as driver_laws
+use Rattle.std.specs.Mem.{type_size}
+use Rattle.card_rules.specs.contracts.Card as card_type
+use Rattle.port_rules.specs.contracts.Bus as bus_type
+use Rattle.driver_rules.specs.contracts.Driver as driver_type
 
 abbrev pub card : ℕ
-card = size card_laws.mir
+card = type_size card_type.the_row
 
 abbrev pub driver : ℕ
-driver = size driver_laws.mir
+driver = type_size driver_type.the_row
 
 abbrev pub bus : ℕ
-bus = size bus_laws.mir
+bus = type_size bus_type.the_row

@@ -1,0 +1,6 @@
+-- `cards::seamtrout_card_read_word` meets its contract: its result is that of the public call, in numbers.
+-- Assumes nothing.
+use Rattle.abi.proofs.cards.seamtrout_card_read_word.Goals as goal
+
+pub returns : goal.returns
+returns c = (c.read_word-x.result, (c.coded_read.ensures, c.read_word-x.ensures))

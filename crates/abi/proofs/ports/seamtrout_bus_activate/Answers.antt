@@ -1,0 +1,6 @@
+-- `ports::seamtrout_bus_activate` meets its contract: its result is that of the public call, in numbers.
+-- Assumes nothing.
+use Rattle.abi.proofs.ports.seamtrout_bus_activate.Goals as goal
+
+pub returns : goal.returns
+returns c = (c.activate_card-x.result, (c.coded_activated.ensures, c.activate_card-x.ensures))

@@ -2,7 +2,8 @@
 ghost use Rattle.std.specs.Prelude.{◌≡◌, true};
 ghost use Rattle.catalogue_lib.specs.Mode.{is_mode};
 
-use std::fs::File;
+use std::fs::{File, Metadata};
+use std::io;
 use std::os::unix::fs::MetadataExt;
 
 // What `mode_of` answers where the system does not tell.
@@ -12,8 +13,15 @@ pub const UNKNOWN: u32 = 65536;
 pub fn mode_of(file: &File) -> u32
     ensures { is_mode result ≡ true }
 {
-    match file.metadata() {
-        Ok(told) => mode_in(told.mode()),
+    told(file.metadata())
+}
+
+// The same, of what the system answered.
+fn told(answer: io::Result<Metadata>) -> u32
+    ensures { is_mode result ≡ true }
+{
+    match answer {
+        Ok(found) => mode_in(found.mode()),
         Err(_) => UNKNOWN,
     }
 }

@@ -85,12 +85,19 @@ fn take_of<R: Read>(rt: &HostRuntime, what: &[u8], from: &mut R, room: &mut [u8]
     got_of(taken)
 }
 
+// The same of standard input.
+fn take_input(rt: &HostRuntime, room: &mut [u8]) -> Got
+    ensures { IsPrefixLen result.len room.new }
+{
+    take_of(rt, b"standard input", &mut rt.stdin(), room)
+}
+
 // Reads the start of a file, as much as the room holds; - is standard input.
 pub fn read_start(rt: &HostRuntime, path: &[u8], room: &mut [u8]) -> Got
     ensures { IsPrefixLen result.len room.new }
 {
     if catalogue_text::is_dash(path) {
-        return take_of(rt, b"standard input", &mut rt.stdin(), room);
+        return take_input(rt, room);
     }
     match host::open(rt, path) {
         Ok(mut file) => take_of(rt, path, &mut file, room),

@@ -7,14 +7,14 @@ ghost use Rattle.bits.specs.Bits.{has as has_of, weigh};
 pub fn wide(b: u8) -> u16
     ensures { (result ≡ b) × (result < 256) }
 {
-    b as u16
+    u16::from(b)
 }
 
 // Two bytes as a word.
 pub fn pair(high: u8, low: u8) -> u16
     ensures { result ≡ high * 256 + low }
 {
-    (high as u16) * 256 + (low as u16)
+    u16::from_be_bytes([high, low])
 }
 
 // The weight of a flag that is set.

@@ -10,7 +10,7 @@ use Rattle.port_rules.specs.Card.{activated}
 use Rattle.receive_rules.specs.Frame.{Frame, damaged, whole}
 use Rattle.receive_rules.specs.Reading.{marks, rx_status}
 use Rattle.receive_rules.specs.Update.{with_read, with_receiver, with_frames}
-use Rattle.card_rules.specs.declared.RxStatus.TheVariants.{Shows, Refused}
+use Rattle.std.specs.Prelude.{Ok, Err}
 use Rattle.card_rules.specs.Adapter.{Adapter}
 use Rattle.card_rules.specs.Update.{with_id, with_select, with_rx, select_window}
 use Rattle.card_rules.specs.Power.{power_on}
@@ -26,16 +26,16 @@ frame : List Frame
 frame = record { bytes = replicate 61 7; state = whole } ∷ []
 
 -- 61 bytes: none read, in window 1; 62 read, in window 0; 64 read, in window 3
-in_any_window : (rx_told true (card 1 frame 0) ≡ Shows 0x003D (pos 61)) × ((rx_told true (card 0 frame 62) ≡ Shows 0x07FF (negsuc 0)) × (rx_told true (card 3 frame 64) ≡ Shows 0x07FD (negsuc 2)))
+in_any_window : (rx_told true (card 1 frame 0) ≡ Ok (record { word = 0x003D; unread = (pos 61) })) × ((rx_told true (card 0 frame 62) ≡ Ok (record { word = 0x07FF; unread = (negsuc 0) })) × (rx_told true (card 3 frame 64) ≡ Ok (record { word = 0x07FD; unread = (negsuc 2) })))
 unfolding rx_told rx_word rx_unread rx_status marks card frame power_on
 in_any_window = (refl, (refl, refl))
 
 -- 1,515 bytes, code 1; an empty store
-long_and_none : (rx_told true (card 5 (record { bytes = replicate 1515 7; state = damaged 1 } ∷ []) 0) ≡ Shows 0x4DEB (pos 1515)) × (rx_told true (card 2 [] 0) ≡ Shows 0x8000 (pos 0))
+long_and_none : (rx_told true (card 5 (record { bytes = replicate 1515 7; state = damaged 1 } ∷ []) 0) ≡ Ok (record { word = 0x4DEB; unread = (pos 1515) })) × (rx_told true (card 2 [] 0) ≡ Ok (record { word = 0x8000; unread = (pos 0) }))
 unfolding rx_told rx_word rx_unread rx_status marks card power_on
 long_and_none = (refl, refl)
 
 -- an inactive card; an unsound state
-none_told : (rx_told true (power_on [] 0) ≡ Shows 0xFFFF (pos 0)) × (rx_told false (card 1 frame 0) ≡ Refused StateUnsound)
+none_told : (rx_told true (power_on [] 0) ≡ Ok (record { word = 0xFFFF; unread = (pos 0) })) × (rx_told false (card 1 frame 0) ≡ Err StateUnsound)
 unfolding rx_told rx_word rx_unread power_on
 none_told = (refl, refl)

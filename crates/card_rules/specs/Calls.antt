@@ -1,5 +1,6 @@
 -- The public calls: which refusal comes or which answer, and what becomes of card and memory. Assumes nothing.
-use Rattle.std.specs.Prelude.{◌≡◌, List, ◌++◌, ℕ, zero, suc, length, drop}
+use Rattle.std.specs.Prelude.{◌≡◌, List, ◌++◌, ℕ, zero, suc, length, drop, Result, Ok, Err, ⊤}
+use Rattle.refusal.specs.declared.Refusal.{Refusal}
 use Rattle.refusal.specs.Number.{number_of}
 -- which refusal comes
 unfoldable pub use Rattle.card_rules.specs.Tests.{judged}
@@ -7,12 +8,6 @@ pub use Rattle.card_rules.specs.Tests.{is_word, is_byte, off_wire, on_wire}
 use Rattle.card_rules.specs.declared.Card.{Card}
 use Rattle.card_rules.specs.Adapter.{Adapter}
 use Rattle.card_rules.specs.View.{Stands}
-use Rattle.card_rules.specs.declared.Read.{Read}
-use Rattle.card_rules.specs.declared.Read.TheVariants as read
-use Rattle.card_rules.specs.declared.Done.{Done}
-use Rattle.card_rules.specs.declared.Done.TheVariants as finished
-use Rattle.card_rules.specs.declared.Told.{Told}
-use Rattle.card_rules.specs.declared.Told.TheVariants as told
 
 -- what a call answers: a refusal's number, that it is done, or a value
 pub data Reply : Type 0 where
@@ -20,17 +15,17 @@ pub data Reply : Type 0 where
   done : Reply
   value : ℕ → Reply
 
-abbrev pub read_reply : Read → Reply
-read_reply (read.Value v) = value v
-read_reply (read.Refused why) = refused (number_of why)
+abbrev pub read_reply : Result ℕ Refusal → Reply
+read_reply (Ok v) = value v
+read_reply (Err why) = refused (number_of why)
 
-abbrev pub done_reply : Done → Reply
-done_reply finished.Done = done
-done_reply (finished.Refused why) = refused (number_of why)
+abbrev pub done_reply : Result ⊤ Refusal → Reply
+done_reply (Ok _) = done
+done_reply (Err why) = refused (number_of why)
 
-abbrev pub told_reply : Told → Reply
-told_reply (told.Told n) = value n
-told_reply (told.Refused why) = refused (number_of why)
+abbrev pub told_reply : Result ℕ Refusal → Reply
+told_reply (Ok n) = value n
+told_reply (Err why) = refused (number_of why)
 
 -- a refusal, or the answer of the step
 unfoldable pub replying : ℕ → Reply → Reply

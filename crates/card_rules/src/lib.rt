@@ -97,48 +97,16 @@ pub struct Gone {
     pub n: usize,
 }
 
-// What a read answers.
+// What `rx_status` tells: the word, and the unread bytes.
 #[derive(Clone, Copy)]
-pub enum Read {
-    Value(u16),
-    Refused(Refusal),
+pub struct RxStatus {
+    pub word: u16,
+    pub unread: i16,
 }
 
-// What `rx_status` answers: the word, and the unread bytes.
+// The card after a public call, and the answer: a read's value, nothing where a call only does, or how many bytes the wire was told.
 #[derive(Clone, Copy)]
-pub enum RxStatus {
-    Shows(u16, i16),
-    Refused(Refusal),
-}
-
-#[derive(Clone, Copy)]
-pub struct AfterRead {
+pub struct After<T> {
     pub card: Card,
-    pub answer: Read,
-}
-
-// What a write, a wire call, 16 collisions or a seated ID state answers.
-#[derive(Clone, Copy)]
-pub enum Done {
-    Done,
-    Refused(Refusal),
-}
-
-#[derive(Clone, Copy)]
-pub struct AfterCall {
-    pub card: Card,
-    pub answer: Done,
-}
-
-// What a success answers: how many bytes the wire was told.
-#[derive(Clone, Copy)]
-pub enum Told {
-    Told(usize),
-    Refused(Refusal),
-}
-
-#[derive(Clone, Copy)]
-pub struct AfterSuccess {
-    pub card: Card,
-    pub answer: Told,
+    pub answer: Result<T, Refusal>,
 }

@@ -5,10 +5,11 @@ use mathlib.Core.List.{List, [], ◌∷◌, ◌++◌, map}
 use Prim.Native.Nat.{ℕ, ◌/◌, ◌%◌}
 use lib.ListN.{get_or, set, take, replicate}
 use lib.Bits.{bit_xor}
+use Rattle.std.specs.Prelude.{Result, Ok, Err}
 use Rattle.refusal.specs.Number.{number_of}
+use Rattle.refusal.specs.declared.Refusal.{Refusal}
 use Rattle.refusal.specs.declared.Refusal.TheVariants.{LengthOutside, MakerWrong, ChecksumWrong, SecondaryWrong}
-use Rattle.image_rules.specs.declared.Checked.{Checked}
-use Rattle.image_rules.specs.declared.Checked.TheVariants.{Sound, Refused}
+use Rattle.image_rules.specs.declared.Node.{Node}
 use Rattle.image_rules.specs.Image.{place_of, word_at, both_bytes, xor_of, span, checksum_of, secondary_of, check_of}
 
 -- Word offset 0Fh stands at byte place 1Eh.
@@ -36,46 +37,46 @@ card =
 abbrev with : ℕ → ℕ → List ℕ
 with w value = bytes_of (set card w value)
 
-sound : check_of (bytes_of card) ≡ Sound 0x0020 0xAFC4 0x12E5
+sound : check_of (bytes_of card) ≡ Ok (record { node0 = 0x0020; node1 = 0xAFC4; node2 = 0x12E5 })
 unfolding check_of word_at checksum_of secondary_of xor_of both_bytes
 sound = refl
 
 -- 2: image not 128 bytes.
-none : check_of [] ≡ Refused LengthOutside
+none : check_of [] ≡ Err LengthOutside
 unfolding check_of
 none = refl
 
-one-short : check_of (take 127 (bytes_of card)) ≡ Refused LengthOutside
+one-short : check_of (take 127 (bytes_of card)) ≡ Err LengthOutside
 unfolding check_of
 one-short = refl
 
-one-long : check_of (bytes_of card ++ (0 ∷ [])) ≡ Refused LengthOutside
+one-long : check_of (bytes_of card ++ (0 ∷ [])) ≡ Err LengthOutside
 unfolding check_of
 one-long = refl
 
 -- 8: word 07h is not 6D50h.
-zeros : check_of (replicate 128 0) ≡ Refused MakerWrong
+zeros : check_of (replicate 128 0) ≡ Err MakerWrong
 unfolding check_of word_at
 zeros = refl
 
-maker_turned : check_of (with 0x07 0x506D) ≡ Refused MakerWrong
+maker_turned : check_of (with 0x07 0x506D) ≡ Err MakerWrong
 unfolding check_of word_at
 maker_turned = refl
 
 -- 9: word 0Fh is not the checksum.
-checksum_wrong : check_of (with 0x0F 0x3C8C) ≡ Refused ChecksumWrong
+checksum_wrong : check_of (with 0x0F 0x3C8C) ≡ Err ChecksumWrong
 unfolding check_of word_at checksum_of xor_of both_bytes
 checksum_wrong = refl
 
 -- 10: word 17h is not the secondary checksums.
-secondary_wrong : check_of (with 0x17 0x1131) ≡ Refused SecondaryWrong
+secondary_wrong : check_of (with 0x17 0x1131) ≡ Err SecondaryWrong
 unfolding check_of word_at checksum_of secondary_of xor_of both_bytes
 secondary_wrong = refl
 
 -- The paper's number of a refusal, and 0 for a sound image.
-abbrev outcome : Checked → ℕ
-outcome (Sound x y z) = 0
-outcome (Refused why) = number_of why
+abbrev outcome : Result Node Refusal → ℕ
+outcome (Ok node) = 0
+outcome (Err why) = number_of why
 
 -- What the check answers with the lowest bit of one word changed, for each word in order: 00h to 06h, 07h,
 -- 08h to 0Fh, 10h to 17h, 18h to 1Fh, 20h to 3Fh. Words 18h to 1Fh go unnoticed: no checksum covers them.
@@ -88,6 +89,6 @@ unfolding check_of word_at checksum_of secondary_of xor_of both_bytes
 one_bit_changed = refl
 
 -- The two bytes of word 00h exchanged: unnoticed.
-bytes_exchanged : check_of (with 0x00 0x2000) ≡ Sound 0x2000 0xAFC4 0x12E5
+bytes_exchanged : check_of (with 0x00 0x2000) ≡ Ok (record { node0 = 0x2000; node1 = 0xAFC4; node2 = 0x12E5 })
 unfolding check_of word_at checksum_of secondary_of xor_of both_bytes
 bytes_exchanged = refl

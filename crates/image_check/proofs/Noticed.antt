@@ -14,9 +14,10 @@ use lib.Seq.{get_or-set_same, get_or-set_other}
 use lib.Dec.{eqb}
 use lib.Bits.{bit_xor, xor_self, xor_comm, xor_zero_r, xor_lt}
 use borrow.Author.Tests.{eqb-true, eqb-false, not-true}
+use Rattle.std.specs.Prelude.{Result, Ok}
+use Rattle.refusal.specs.declared.Refusal.{Refusal}
 use Rattle.refusal.specs.declared.Refusal.TheVariants.{LengthOutside, MakerWrong, ChecksumWrong, SecondaryWrong}
-use Rattle.image_rules.specs.declared.Checked.{Checked}
-use Rattle.image_rules.specs.declared.Checked.TheVariants.{Sound}
+use Rattle.image_rules.specs.declared.Node.{Node}
 use Rattle.image_rules.specs.Image.{place_of, byte_at, low_at, high_at, word_at, from, span, is_among, except, both_bytes, xor_of, configuration, checksum_of, vital, configurable, secondary_of, or_refused, check_of}
 use Rattle.image_check.specs.Noticed.{is_sound, Bytes, OneByteNoticed}
 use Rattle.image_rules.proofs.Xor.{xor_assoc, xor_across}
@@ -124,7 +125,7 @@ record Checksums (image : List ℕ) : Type 0 where
   low17 : byte_at image 0x2E ≡ xor_of image configurable
 
 -- A sound answer has passed every test.
-passed : (a b c d : Bool) (answer : Checked)
+passed : (a b c d : Bool) (answer : Result Node Refusal)
     → is_sound (or_refused a LengthOutside (or_refused b MakerWrong (or_refused c ChecksumWrong (or_refused d SecondaryWrong answer)))) ≡ true
     → (a ≡ true) × (c ≡ true) × (d ≡ true)
 passed true true true true answer e = (refl, refl, refl)
@@ -150,7 +151,7 @@ tests : (image : List ℕ) → is_sound (check_of image) ≡ true
 unfolding check_of
 tests image e =
     passed (eqb (length image) 128) (eqb (word_at image 0x07) 0x6D50) (eqb (word_at image 0x0F) (checksum_of image)) (eqb (word_at image 0x17) (secondary_of image))
-    (Sound (word_at image 0x00) (word_at image 0x01) (word_at image 0x02)) e
+    (Ok (record { node0 = word_at image 0x00; node1 = word_at image 0x01; node2 = word_at image 0x02 })) e
 
 checksums : (image : List ℕ) → Bytes image → is_sound (check_of image) ≡ true → Checksums image
 unfolding word_at checksum_of secondary_of

@@ -3,14 +3,14 @@
 -- Words 18h to 1Fh are in no checksum. A change of several bytes can go unnoticed: the same bits changed in two bytes
 -- of one list cancel in the exclusive-or, as where the two bytes of a word are exchanged.
 -- Assumes nothing.
-use Rattle.std.specs.Prelude.{ℕ, ◌/◌, ◌<◌, ◌≡◌, Bool, true, false, List, set}
-use Rattle.image_rules.specs.declared.Checked.{Checked}
-use Rattle.image_rules.specs.declared.Checked.TheVariants.{Sound, Refused}
+use Rattle.std.specs.Prelude.{ℕ, ◌/◌, ◌<◌, ◌≡◌, Bool, true, false, List, set, Result, Ok, Err}
+use Rattle.refusal.specs.declared.Refusal.{Refusal}
+use Rattle.image_rules.specs.declared.Node.{Node}
 use Rattle.image_rules.specs.Image.{byte_at, span, is_among, check_of}
 
-abbrev pub is_sound : Checked → Bool
-is_sound (Sound node0 node1 node2) = true
-is_sound (Refused why) = false
+abbrev pub is_sound : Result Node Refusal → Bool
+is_sound (Ok node) = true
+is_sound (Err why) = false
 
 -- Every element is a byte.
 abbrev pub Bytes : List ℕ → Type 0

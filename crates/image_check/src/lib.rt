@@ -10,7 +10,7 @@ ghost use Rattle.std.specs.Int.Bits.{bit_xor};
 ghost use Rattle.image_rules.specs.ImageContracts as contract;
 
 use bits::pair;
-use image_rules::{BytePlace, Checked, WordOffset};
+use image_rules::{BytePlace, Node, WordOffset};
 use refusal::Refusal;
 pub use text::{judged, line};
 
@@ -29,11 +29,7 @@ pub fn place_of(w: WordOffset) -> BytePlace
 pub fn byte_at(image: &[u8], at: BytePlace) -> u8
     ensures { contract.ByteAt image.now at result }
 {
-    let place = at.0;
-    if place < image.len() {
-        return image[place];
-    }
-    0
+    image.get(at.0).copied().unwrap_or(0)
 }
 
 // The word at an offset.
@@ -92,24 +88,24 @@ fn folded(word: u16) -> u8
 }
 
 // Checks an image of any length. The first of 2, 8, 9 and 10 that is due is the answer.
-pub fn check(image: &[u8]) -> Checked
+pub fn check(image: &[u8]) -> Result<Node, Refusal>
     ensures { contract.Check image.now result }
 {
     if image.len() != 128 {
-        return Checked::Refused(Refusal::LengthOutside);
+        return Err(Refusal::LengthOutside);
     }
     if word_at(image, WordOffset(0x07)) != MAKER {
-        return Checked::Refused(Refusal::MakerWrong);
+        return Err(Refusal::MakerWrong);
     }
     if word_at(image, WordOffset(0x0f)) != checksum(image) {
-        return Checked::Refused(Refusal::ChecksumWrong);
+        return Err(Refusal::ChecksumWrong);
     }
     if word_at(image, WordOffset(0x17)) != secondary(image) {
-        return Checked::Refused(Refusal::SecondaryWrong);
+        return Err(Refusal::SecondaryWrong);
     }
-    Checked::Sound {
+    Ok(Node {
         node0: word_at(image, WordOffset(0x00)),
         node1: word_at(image, WordOffset(0x01)),
         node2: word_at(image, WordOffset(0x02)),
-    }
+    })
 }

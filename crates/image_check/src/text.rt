@@ -2,7 +2,8 @@
 ghost use Rattle.image_rules.specs.ImageContracts as contract;
 
 use crate::forms::{ok_line, refused_line};
-use image_rules::{Checked, Text};
+use image_rules::{Node, Text};
+use refusal::Refusal;
 
 // The line for an image of any length.
 pub fn judged(image: &[u8]) -> Text
@@ -12,15 +13,17 @@ pub fn judged(image: &[u8]) -> Text
 }
 
 // The line for what a check found.
-pub fn line(found: Checked) -> Text
+pub fn line(found: Result<Node, Refusal>) -> Text
     ensures { contract.Line found result }
 {
     match found {
-        Checked::Sound {
-            node0,
-            node1,
-            node2,
-        } => ok_line(node0, node1, node2),
-        Checked::Refused(why) => refused_line(refusal::number(why)),
+        Ok(
+            Node {
+                node0,
+                node1,
+                node2,
+            },
+        ) => ok_line(node0, node1, node2),
+        Err(why) => refused_line(refusal::number(why)),
     }
 }

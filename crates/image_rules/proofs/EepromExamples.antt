@@ -4,8 +4,8 @@ use mathlib.Core.Path.{◌≡◌, refl}
 use mathlib.Core.List.{List, [], ◌∷◌, ◌++◌}
 use Prim.Native.Nat.{ℕ, ◌/◌, ◌%◌}
 use lib.ListN.{set, take, replicate}
+use Rattle.std.specs.Prelude.{Ok, Err}
 use Rattle.refusal.specs.declared.Refusal.TheVariants.{LengthOutside, MakerWrong, ChecksumWrong, SecondaryWrong}
-use Rattle.image_rules.specs.declared.Checked.TheVariants.{Sound, Refused}
 use Rattle.image_rules.specs.Image.{place_of, byte_at, word_at, both_bytes, xor_of, checksum_of, secondary_of, check_of}
 
 -- Word offset 0Fh stands at byte place 1Eh.
@@ -48,31 +48,31 @@ secondary : secondary_of (bytes_of words) ≡ 0xDA11
 unfolding secondary_of xor_of both_bytes
 secondary = refl
 
-sound : check_of (bytes_of words) ≡ Sound 0x0020 0xAFC4 0x12E5
+sound : check_of (bytes_of words) ≡ Ok (record { node0 = 0x0020; node1 = 0xAFC4; node2 = 0x12E5 })
 unfolding check_of word_at checksum_of secondary_of xor_of both_bytes
 sound = refl
 
 -- 2: image not 128 bytes.
-one-short : check_of (take 127 (bytes_of words)) ≡ Refused LengthOutside
+one-short : check_of (take 127 (bytes_of words)) ≡ Err LengthOutside
 unfolding check_of word_at checksum_of secondary_of xor_of both_bytes
 one-short = refl
 
 -- 8: word 07h is not 6D50h.
-zeros : check_of (replicate 128 0) ≡ Refused MakerWrong
+zeros : check_of (replicate 128 0) ≡ Err MakerWrong
 unfolding check_of word_at
 zeros = refl
 
 -- 9: word 0Fh is not the checksum.
-bytes_exchanged : check_of (with 0x3C81 0xDA11) ≡ Refused ChecksumWrong
+bytes_exchanged : check_of (with 0x3C81 0xDA11) ≡ Err ChecksumWrong
 unfolding check_of word_at checksum_of secondary_of xor_of both_bytes
 bytes_exchanged = refl
 
 -- 10: word 17h is not the secondary checksums.
-secondary_wrong : check_of (with 0x813C 0x11DA) ≡ Refused SecondaryWrong
+secondary_wrong : check_of (with 0x813C 0x11DA) ≡ Err SecondaryWrong
 unfolding check_of word_at checksum_of secondary_of xor_of both_bytes
 secondary_wrong = refl
 
 -- Neither is: 9 wins.
-both_wrong : check_of (with 0x3C81 0x11DA) ≡ Refused ChecksumWrong
+both_wrong : check_of (with 0x3C81 0x11DA) ≡ Err ChecksumWrong
 unfolding check_of word_at checksum_of secondary_of xor_of both_bytes
 both_wrong = refl

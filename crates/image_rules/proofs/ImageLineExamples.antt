@@ -3,8 +3,8 @@
 use mathlib.Core.Path.{◌≡◌, refl}
 use mathlib.Core.List.{[], ◌∷◌}
 use lib.ListN.{replicate}
+use Rattle.std.specs.Prelude.{Ok, Err}
 use Rattle.refusal.specs.declared.Refusal.TheVariants.{SecondaryWrong}
-use Rattle.image_rules.specs.declared.Checked.TheVariants.{Sound, Refused}
 use Rattle.image_rules.specs.Image.{word_at, check_of}
 use Rattle.image_rules.specs.Line.{line_of}
 
@@ -15,12 +15,12 @@ unfolding check_of word_at
 zeros = refl
 
 -- `image refused 10`
-ten : line_of (Refused SecondaryWrong)
+ten : line_of (Err SecondaryWrong)
     ≡ 0x69 ∷ 0x6D ∷ 0x61 ∷ 0x67 ∷ 0x65 ∷ 0x20 ∷ 0x72 ∷ 0x65 ∷ 0x66 ∷ 0x75 ∷ 0x73 ∷ 0x65 ∷ 0x64 ∷ 0x20 ∷ 0x31 ∷ 0x30 ∷ 0x0A ∷ []
 ten = refl
 
 -- `image ok 0020AFC412E5`
-sound : line_of (Sound 0x0020 0xAFC4 0x12E5)
+sound : line_of (Ok (record { node0 = 0x0020; node1 = 0xAFC4; node2 = 0x12E5 }))
     ≡ 0x69 ∷ 0x6D ∷ 0x61 ∷ 0x67 ∷ 0x65 ∷ 0x20 ∷ 0x6F ∷ 0x6B ∷ 0x20
     ∷ 0x30 ∷ 0x30 ∷ 0x32 ∷ 0x30 ∷ 0x41 ∷ 0x46 ∷ 0x43 ∷ 0x34 ∷ 0x31 ∷ 0x32 ∷ 0x45 ∷ 0x35 ∷ 0x0A ∷ []
 sound = refl

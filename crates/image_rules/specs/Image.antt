@@ -1,11 +1,10 @@
 -- Document 01, "EEPROM image", over the list of the image's bytes.
 -- Assumes nothing.
-use Rattle.std.specs.Prelude.{ℕ, zero, suc, ◌+◌, ◌*◌, ◌-◌, ◌%◌, Bool, true, false, cond, ◌||◌, List, [], ◌∷◌, ◌++◌, length, get_or, eqb}
+use Rattle.std.specs.Prelude.{ℕ, zero, suc, ◌+◌, ◌*◌, ◌-◌, ◌%◌, Bool, true, false, cond, ◌||◌, List, [], ◌∷◌, ◌++◌, length, get_or, eqb, Result, Ok, Err}
 use Rattle.std.specs.Int.Bits.{bit_xor}
 use Rattle.refusal.specs.declared.Refusal.{Refusal}
 use Rattle.refusal.specs.declared.Refusal.TheVariants.{LengthOutside, MakerWrong, ChecksumWrong, SecondaryWrong}
-use Rattle.image_rules.specs.declared.Checked.{Checked}
-use Rattle.image_rules.specs.declared.Checked.TheVariants.{Sound, Refused}
+use Rattle.image_rules.specs.declared.Node.{Node}
 
 -- The byte place of the word at offset w. An offset has six bits: it counts modulo 64.
 abbrev pub place_of : ℕ → ℕ
@@ -71,16 +70,16 @@ unfoldable pub secondary_of : List ℕ → ℕ
 secondary_of image = xor_of image vital * 256 + xor_of image configurable
 
 -- The refusal, unless the test holds.
-abbrev pub or_refused : Bool → Refusal → Checked → Checked
+abbrev pub or_refused : Bool → Refusal → Result Node Refusal → Result Node Refusal
 or_refused true why answer = answer
-or_refused false why answer = Refused why
+or_refused false why answer = Err why
 
 -- Image not 128 bytes; word 07h is not 6D50h; word 0Fh is not the checksum; word 17h is not the
 -- secondary checksums: the first of these wins. A sound image gives words 00h-02h.
-unfoldable pub check_of : List ℕ → Checked
+unfoldable pub check_of : List ℕ → Result Node Refusal
 check_of image =
     or_refused (eqb (length image) 128) LengthOutside
     (or_refused (eqb (word_at image 0x07) 0x6D50) MakerWrong
     (or_refused (eqb (word_at image 0x0F) (checksum_of image)) ChecksumWrong
     (or_refused (eqb (word_at image 0x17) (secondary_of image)) SecondaryWrong
-    (Sound (word_at image 0x00) (word_at image 0x01) (word_at image 0x02)))))
+    (Ok (record { node0 = word_at image 0x00; node1 = word_at image 0x01; node2 = word_at image 0x02 })))))

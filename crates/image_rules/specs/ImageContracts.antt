@@ -1,8 +1,9 @@
 -- The contract of each public call on an image, by its name. Assumes nothing.
-use Rattle.std.specs.Prelude.{◌≡◌, List, ℕ}
+use Rattle.std.specs.Prelude.{◌≡◌, List, ℕ, Result}
+use Rattle.refusal.specs.declared.Refusal.{Refusal}
 use Rattle.image_rules.specs.declared.WordOffset.{WordOffset}
 use Rattle.image_rules.specs.declared.BytePlace.{BytePlace}
-use Rattle.image_rules.specs.declared.Checked.{Checked}
+use Rattle.image_rules.specs.declared.Node.{Node}
 use Rattle.image_rules.specs.declared.Text.{Text}
 use Rattle.image_rules.specs.Image.{place_of, byte_at, word_at, checksum_of, secondary_of, check_of}
 use Rattle.image_rules.specs.Line.{line_of, Says}
@@ -24,11 +25,11 @@ module _ (image : List ℕ) where
   abbrev pub Secondary : ℕ → Type 0
   Secondary r = r ≡ secondary_of image
 
-  abbrev pub Check : Checked → Type 0
+  abbrev pub Check : Result Node Refusal → Type 0
   Check r = r ≡ check_of image
 
 -- The line; the bytes past its length are free.
-abbrev pub Line : Checked → Text → Type 0
+abbrev pub Line : Result Node Refusal → Text → Type 0
 Line found r = Says (line_of found) r.len r.bytes
 
 abbrev pub Judged : List ℕ → Text → Type 0

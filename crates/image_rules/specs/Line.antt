@@ -1,9 +1,9 @@
 -- The line that the image program prints, as bytes.
 -- Assumes nothing.
-use Rattle.std.specs.Prelude.{ℕ, ◌+◌, ◌-◌, ◌/◌, ◌%◌, ◌≤◌, ◌≡◌, cond, List, [], ◌∷◌, ◌++◌, length, take, ltb}
+use Rattle.std.specs.Prelude.{ℕ, ◌+◌, ◌-◌, ◌/◌, ◌%◌, ◌≤◌, ◌≡◌, cond, List, [], ◌∷◌, ◌++◌, length, take, ltb, Result, Ok, Err}
+use Rattle.refusal.specs.declared.Refusal.{Refusal}
 use Rattle.refusal.specs.Number.{number_of}
-use Rattle.image_rules.specs.declared.Checked.{Checked}
-use Rattle.image_rules.specs.declared.Checked.TheVariants.{Sound, Refused}
+use Rattle.image_rules.specs.declared.Node.{Node}
 
 -- A hex digit: 0 to 9, then upper-case A to F.
 abbrev pub digit_of : ℕ → ℕ
@@ -30,9 +30,9 @@ abbrev pub refused_line : ℕ → List ℕ
 refused_line n =
     (0x69 ∷ 0x6D ∷ 0x61 ∷ 0x67 ∷ 0x65 ∷ 0x20 ∷ 0x72 ∷ 0x65 ∷ 0x66 ∷ 0x75 ∷ 0x73 ∷ 0x65 ∷ 0x64 ∷ 0x20 ∷ []) ++ (decimal_of n ++ newline)
 
-abbrev pub line_of : Checked → List ℕ
-line_of (Sound node0 node1 node2) = ok_line node0 node1 node2
-line_of (Refused why) = refused_line (number_of why)
+abbrev pub line_of : Result Node Refusal → List ℕ
+line_of (Ok node) = ok_line node.node0 node.node1 node.node2
+line_of (Err why) = refused_line (number_of why)
 
 -- The first `len` of `bytes` are the text, and there are as many. The last part follows from the second:
 -- a caller that takes them wants it.

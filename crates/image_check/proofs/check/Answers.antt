@@ -5,36 +5,36 @@ use mathlib.Core.Path.{◌≡◌}
 use mathlib.Core.List.{List}
 use Prim.Native.Nat.{ℕ}
 use lib.ListN.{length}
+use Rattle.std.specs.Prelude.{Ok, Err}
 use Rattle.refusal.specs.declared.Refusal.TheVariants.{LengthOutside, MakerWrong, ChecksumWrong, SecondaryWrong}
-use Rattle.image_rules.specs.declared.Checked.TheVariants.{Sound, Refused}
 use Rattle.image_rules.specs.Image.{word_at, checksum_of, secondary_of, check_of}
 use Rattle.image_check.proofs.check.Goals as goal
 
 -- The ways through the definition, for the words as read: the maker, 0Fh and 17h, and the two checksums.
 module _ (image : List ℕ) where
-  short : (length image ≡ 128 → ⊥) → Refused LengthOutside ≡ check_of image
+  short : (length image ≡ 128 → ⊥) → Err LengthOutside ≡ check_of image
   unfolding check_of
   short other = simp (ne_eqb _ _ other)
 
   module _ (whole : length image ≡ 128) {maker : ℕ} (read07 : maker ≡ word_at image 0x07) where
-    strange : (maker ≡ 0x6D50 → ⊥) → Refused MakerWrong ≡ check_of image
+    strange : (maker ≡ 0x6D50 → ⊥) → Err MakerWrong ≡ check_of image
     unfolding check_of
     strange other = simp (eq-eqb _ _ whole, ← read07, ne_eqb _ _ other)
 
     module _ (known : maker ≡ 0x6D50) {word0_f sum : ℕ} (read0_f : word0_f ≡ word_at image 0x0F) (made0_f : sum ≡ checksum_of image) where
-      damaged : (word0_f ≡ sum → ⊥) → Refused ChecksumWrong ≡ check_of image
+      damaged : (word0_f ≡ sum → ⊥) → Err ChecksumWrong ≡ check_of image
       unfolding check_of
       damaged other = simp (eq-eqb _ _ whole, ← read07, eq-eqb _ _ known, ← read0_f, ← made0_f, ne_eqb _ _ other)
 
       module _ (agreed : word0_f ≡ sum) {word17 sums : ℕ} (read17 : word17 ≡ word_at image 0x17) (made17 : sums ≡ secondary_of image) where
-        damaged-later : (word17 ≡ sums → ⊥) → Refused SecondaryWrong ≡ check_of image
+        damaged-later : (word17 ≡ sums → ⊥) → Err SecondaryWrong ≡ check_of image
         unfolding check_of
         damaged-later other =
             simp
             (eq-eqb _ _ whole, ← read07, eq-eqb _ _ known, ← read0_f, ← made0_f, eq-eqb _ _ agreed, ← read17, ← made17, ne_eqb _ _ other)
 
         sound : word17 ≡ sums → {x y z : ℕ} → x ≡ word_at image 0x00 → y ≡ word_at image 0x01 → z ≡ word_at image 0x02
-            → Sound x y z ≡ check_of image
+            → Ok (record { node0 = x; node1 = y; node2 = z }) ≡ check_of image
         unfolding check_of
         sound same x y z =
             simp

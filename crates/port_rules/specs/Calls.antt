@@ -1,17 +1,13 @@
 -- What each public call answers and leaves, refusals first. The contracts say neither more nor less than these definitions.
 -- Assumes nothing.
-use Rattle.std.specs.Prelude.{ℕ, ◌-◌, Bool, cond, ◌&&◌, List, [], ◌∷◌, ◌++◌, leb, length, replicate}
+use Rattle.std.specs.Prelude.{ℕ, ◌-◌, Bool, cond, ◌&&◌, List, [], ◌∷◌, ◌++◌, leb, length, replicate, Result, Ok, Err, ⊤}
 use Rattle.port_rules.specs.declared.IdState.{IdState}
+use Rattle.refusal.specs.declared.Refusal.{Refusal}
 use Rattle.refusal.specs.Number.{number_of}
 use Rattle.port_rules.specs.declared.Bus.{Bus}
-use Rattle.port_rules.specs.declared.Wrote.{Wrote}
-use Rattle.port_rules.specs.declared.AfterWrite.{AfterWrite}
-use Rattle.port_rules.specs.declared.Bit.{Bit}
-use Rattle.port_rules.specs.declared.AfterRead.{AfterRead}
-use Rattle.port_rules.specs.declared.Found.{Found}
+use Rattle.port_rules.specs.declared.Cards.{Cards}
+use Rattle.port_rules.specs.declared.After.{After}
 use Rattle.port_rules.specs.declared.AfterSearch.{AfterSearch}
-use Rattle.port_rules.specs.declared.Activation.{Activation}
-use Rattle.port_rules.specs.declared.AfterActivation.{AfterActivation}
 use Rattle.port_rules.specs.Port.{held, seated, port_write, port_bit, port_read, Ran, run}
 use Rattle.port_rules.specs.Search.{search, activate}
 -- the tests of the cards and of the arguments
@@ -23,22 +19,22 @@ pub data Reply : Type 0 where
   refused : ℕ → Reply
   told : List ℕ → Reply
 
+abbrev pub reply_of : {T : Type 0} → (T → List ℕ) → Result T Refusal → Reply
+reply_of tells (Err why) = refused (number_of why)
+reply_of tells (Ok value) = told (tells value)
+
 -- A write tells nothing, a read its bit, a search how many cards it found and the accesses used, an activation the accesses used.
-abbrev pub wrote_reply : Wrote → Reply
-wrote_reply (Wrote.Refused why) = refused (number_of why)
-wrote_reply Wrote.Done = told []
+abbrev pub wrote_reply : Result ⊤ Refusal → Reply
+wrote_reply = reply_of (λ done. [])
 
-abbrev pub bit_reply : Bit → Reply
-bit_reply (Bit.Refused why) = refused (number_of why)
-bit_reply (Bit.Value bit) = told (bit ∷ [])
+abbrev pub bit_reply : Result ℕ Refusal → Reply
+bit_reply = reply_of (λ bit. bit ∷ [])
 
-abbrev pub found_reply : Found → Reply
-found_reply (Found.Refused why) = refused (number_of why)
-found_reply (Found.Cards count accesses) = told (count ∷ accesses ∷ [])
+abbrev pub found_reply : Result Cards Refusal → Reply
+found_reply = reply_of (λ found. found.count ∷ found.accesses ∷ [])
 
-abbrev pub activation_reply : Activation → Reply
-activation_reply (Activation.Refused why) = refused (number_of why)
-activation_reply (Activation.Done accesses) = told (accesses ∷ [])
+abbrev pub activation_reply : Result ℕ Refusal → Reply
+activation_reply = reply_of (λ accesses. accesses ∷ [])
 
 -- seven places: the addresses found, then zeros
 abbrev pub padded : List ℕ → List ℕ
@@ -50,17 +46,20 @@ pub record Outcome : Type 0 where
   pub places : List ℕ
   pub bus : Bus
 
-abbrev pub wrote_of : AfterWrite → Outcome
-wrote_of r = record { reply = wrote_reply r.answer; places = padded []; bus = r.bus }
+abbrev pub left_of : {T : Type 0} → (Result T Refusal → Reply) → After T → Outcome
+left_of reply r = record { reply = reply r.answer; places = padded []; bus = r.bus }
 
-abbrev pub read_of : AfterRead → Outcome
-read_of r = record { reply = bit_reply r.answer; places = padded []; bus = r.bus }
+abbrev pub wrote_of : After ⊤ → Outcome
+wrote_of = left_of wrote_reply
+
+abbrev pub read_of : After ℕ → Outcome
+read_of = left_of bit_reply
 
 abbrev pub found_of : AfterSearch → Outcome
 found_of r = record { reply = found_reply r.answer; places = r.addresses; bus = r.bus }
 
-abbrev pub activated_of : AfterActivation → Outcome
-activated_of r = record { reply = activation_reply r.answer; places = padded []; bus = r.bus }
+abbrev pub activated_of : After ℕ → Outcome
+activated_of = left_of activation_reply
 
 -- The tests. The ID port is 1x0h, and there are not more than 8 cards.
 unfoldable pub allowed : Bus → ℕ → Bool

@@ -1,13 +1,11 @@
 -- What each call over the slice comes to: the definition of the call by value, with the slice for the bus.
 -- Assumes nothing.
-use Rattle.std.specs.Prelude.{ℕ, ◌≤◌, ◌≡◌, List, [], length}
+use Rattle.std.specs.Prelude.{ℕ, ◌≤◌, ◌≡◌, List, [], length, Result, ⊤}
+use Rattle.refusal.specs.declared.Refusal.{Refusal}
 use Rattle.port_rules.specs.declared.IdState.{IdState}
 use Rattle.port_rules.specs.declared.Bus.{Bus}
-use Rattle.port_rules.specs.declared.Wrote.{Wrote}
-use Rattle.port_rules.specs.declared.Bit.{Bit}
-use Rattle.port_rules.specs.declared.Activation.{Activation}
 use Rattle.port_rules.specs.Port.{held}
-use Rattle.port_rules.specs.Calls.{Outcome, wrote_reply, bit_reply, found_reply, activation_reply, padded, port_writes, port_reads, finds_cards, activates_card}
+use Rattle.port_rules.specs.Calls.{Reply, Outcome, wrote_reply, bit_reply, found_reply, activation_reply, padded, port_writes, port_reads, finds_cards, activates_card}
 use Rattle.port_rules.specs.declared.Listed.{Listed}
 
 -- The slice as a bus: as many places as there are cards, and all of them taken.
@@ -15,17 +13,20 @@ abbrev pub lent : List IdState → Bus
 lent cards = record { cards = cards; count = length cards }
 
 -- A call's answer, and the slice as it leaves it.
-abbrev pub wrote_over : Wrote → List IdState → Outcome
-wrote_over r cards = record { reply = wrote_reply r; places = padded []; bus = lent cards }
+abbrev pub left_over : {T : Type 0} → (Result T Refusal → Reply) → Result T Refusal → List IdState → Outcome
+left_over reply r cards = record { reply = reply r; places = padded []; bus = lent cards }
 
-abbrev pub read_over : Bit → List IdState → Outcome
-read_over r cards = record { reply = bit_reply r; places = padded []; bus = lent cards }
+abbrev pub wrote_over : Result ⊤ Refusal → List IdState → Outcome
+wrote_over = left_over wrote_reply
+
+abbrev pub read_over : Result ℕ Refusal → List IdState → Outcome
+read_over = left_over bit_reply
 
 abbrev pub found_over : Listed → List IdState → Outcome
 found_over r cards = record { reply = found_reply r.answer; places = r.addresses; bus = lent cards }
 
-abbrev pub activated_over : Activation → List IdState → Outcome
-activated_over r cards = record { reply = activation_reply r; places = padded []; bus = lent cards }
+abbrev pub activated_over : Result ℕ Refusal → List IdState → Outcome
+activated_over = left_over activation_reply
 
 -- Two outcomes with the same answer, the same places and the same cards there.
 pub record Alike (o u : Outcome) : Type 0 where

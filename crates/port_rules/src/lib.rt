@@ -30,59 +30,31 @@ pub struct Bus {
     pub count: usize,
 }
 
+// The cards after a call, and its answer: a write tells nothing, a read the bit that the bus carried, an activation the accesses used.
 #[derive(Clone, Copy)]
-pub enum Wrote {
-    Refused(Refusal),
-    Done,
-}
-
-#[derive(Clone, Copy)]
-pub struct AfterWrite {
+pub struct After<T> {
     pub bus: Bus,
-    pub answer: Wrote,
+    pub answer: Result<T, Refusal>,
 }
 
+// How many cards a search found, and the accesses used.
 #[derive(Clone, Copy)]
-pub enum Bit {
-    Refused(Refusal),
-    Value(u8),
-}
-
-#[derive(Clone, Copy)]
-pub struct AfterRead {
-    pub bus: Bus,
-    pub answer: Bit,
-}
-
-#[derive(Clone, Copy)]
-pub enum Found {
-    Refused(Refusal),
-    Cards { count: usize, accesses: usize },
+pub struct Cards {
+    pub count: usize,
+    pub accesses: usize,
 }
 
 // The first `count` of `addresses` are the station addresses found, in ascending order; the others are 0.
 #[derive(Clone, Copy)]
 pub struct AfterSearch {
     pub bus: Bus,
-    pub answer: Found,
+    pub answer: Result<Cards, Refusal>,
     pub addresses: [u64; 7],
 }
 
 // What a search over a lent slice answers: the cards stay where they are lent.
 #[derive(Clone, Copy)]
 pub struct Listed {
-    pub answer: Found,
+    pub answer: Result<Cards, Refusal>,
     pub addresses: [u64; 7],
-}
-
-#[derive(Clone, Copy)]
-pub enum Activation {
-    Refused(Refusal),
-    Done { accesses: usize },
-}
-
-#[derive(Clone, Copy)]
-pub struct AfterActivation {
-    pub bus: Bus,
-    pub answer: Activation,
 }

@@ -1,17 +1,18 @@
 -- The refusals of a service before its first access, computed for any adapter; the state, the areas, and what is handed up. Assumes nothing.
+use Rattle.std.specs.Prelude.{Result, Err}
 use mathlib.Core.Path.{◌≡◌, refl}
 use mathlib.Core.Bool.{Bool, true, false}
 use mathlib.Core.List.{List}
 use Prim.Native.Nat.{ℕ}
 use lib.ListN.{get_or, replicate}
+use Rattle.refusal.specs.declared.Refusal.{Refusal}
 use Rattle.refusal.specs.declared.Refusal.TheVariants.{StateUnsound, BudgetShort, NeverOpened, AreaShort}
 use Rattle.card_rules.specs.declared.Card.{Card}
 use Rattle.card_rules.specs.Adapter.{Adapter}
 use Rattle.card_rules.specs.View.{sound_card}
 use Rattle.driver_rules.specs.declared.Driver.{Driver}
 use Rattle.driver_rules.specs.Talk.{run}
-use Rattle.driver_rules.specs.declared.Answer.{Answer}
-use Rattle.driver_rules.specs.declared.Answer.TheVariants.{Refused}
+use Rattle.driver_rules.specs.declared.Item.{Item}
 use Rattle.driver_rules.specs.Service.{look_talk}
 use Rattle.driver_rules.specs.Calls.{sound_state, large, service_call}
 use Rattle.driver_rules.specs.HandUp.{handed}
@@ -20,24 +21,24 @@ abbrev driver : Bool → Driver
 driver opened = record { opened = opened; sent = 0; unreported = 0; error = false }
 
 -- What a service of 5 answers.
-abbrev answer : Bool → Bool → Bool → Adapter → Answer
+abbrev answer : Bool → Bool → Bool → Adapter → Result Item Refusal
 answer sound areas opened a = (run (service_call sound areas (driver opened) 5) a).answer.answer
 
 -- An opened driver with short areas answers 7, one never opened 13, whatever the areas; an unsound state comes first.
-short-areas : (a : Adapter) → answer true false true a ≡ Refused AreaShort
+short-areas : (a : Adapter) → answer true false true a ≡ Err AreaShort
 unfolding run service_call
 short-areas a = refl
 
-never_opened_lem : (a : Adapter) → answer true false false a ≡ Refused NeverOpened
+never_opened_lem : (a : Adapter) → answer true false false a ≡ Err NeverOpened
 unfolding run service_call
 never_opened_lem a = refl
 
-unsound : (a : Adapter) → answer false false false a ≡ Refused StateUnsound
+unsound : (a : Adapter) → answer false false false a ≡ Err StateUnsound
 unfolding run service_call
 unsound a = refl
 
 -- None of the three refuses a service of 0: it answers 6.
-begun : (a : Adapter) → (run (service_call true true (driver true) 0) a).answer.answer ≡ Refused BudgetShort
+begun : (a : Adapter) → (run (service_call true true (driver true) 0) a).answer.answer ≡ Err BudgetShort
 unfolding run service_call look_talk
 begun a = refl
 

@@ -1,4 +1,5 @@
 -- Worked figures, computed. Assumes nothing.
+use Rattle.std.specs.Prelude.{Ok}
 use mathlib.Core.Path.{◌≡◌, refl}
 use mathlib.Core.Bool.{Bool, true, false}
 use mathlib.Core.List.{[], ◌∷◌, ◌++◌}
@@ -8,7 +9,7 @@ use Rattle.card_rules.specs.Access.{ReadByte, WriteWord, WriteByte}
 use Rattle.driver_rules.specs.declared.Driver.{Driver}
 use Rattle.driver_rules.proofs.TalkExamples.{made, answer}
 use Rattle.driver_rules.specs.Talk.{read_words}
-use Rattle.driver_rules.specs.declared.Answer.TheVariants.{Reported}
+use Rattle.driver_rules.specs.declared.Item.TheVariants.{Reported}
 use Rattle.driver_rules.specs.Items.{plain, short, is_error, reports, report_talk, fetch_talk}
 use Rattle.driver_rules.specs.Areas.{is_short, in_look}
 
@@ -27,7 +28,7 @@ driver : ℕ → Bool → Driver
 driver unreported error = record { opened = true; sent = 7; unreported = unreported; error = error }
 
 -- Of three unreported packets the oldest, 4, is reported: two are left.
-reported_once : reports 0xC0 (driver 3 false) ≡ plain (Reported 4 0xC0) (driver 2 false)
+reported_once : reports 0xC0 (driver 3 false) ≡ plain (Ok (Reported 4 0xC0)) (driver 2 false)
 unfolding reports driver
 reported_once = refl
 
@@ -46,7 +47,7 @@ status-left : made (report_talk 4 (driver 3 false)) (0xC8 ∷ (0 ∷ (0xC0 ∷ [
 unfolding made report_talk driver
 status-left = refl
 
-error_kept : answer (report_talk 4 (driver 3 false)) (0xC8 ∷ (0 ∷ (0xC0 ∷ []))) ≡ plain (Reported 4 0xC8) (driver 2 true)
+error_kept : answer (report_talk 4 (driver 3 false)) (0xC8 ∷ (0 ∷ (0xC0 ∷ []))) ≡ plain (Ok (Reported 4 0xC8)) (driver 2 true)
 unfolding answer report_talk reports driver
 error_kept = refl
 

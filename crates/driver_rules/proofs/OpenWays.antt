@@ -1,4 +1,5 @@
 -- The parts of an open, one after the other, are the run of its tree. `access` stays shut. Assumes nothing.
+use Rattle.std.specs.Prelude.{Ok}
 use mathlib.Core.Path.{◌≡◌, refl}
 use mathlib.Core.List.{List, [], ◌∷◌, ◌++◌}
 use Prim.Native.Nat.{ℕ, ◌+◌}
@@ -12,7 +13,6 @@ use Rattle.driver_rules.specs.Registers.{select_window}
 use Rattle.driver_rules.specs.Driver.{opening}
 use Rattle.driver_rules.specs.Talk.{run, after}
 use Rattle.driver_rules.proofs.Runs.{stands-then, stands_one}
-use Rattle.driver_rules.specs.declared.OpenAnswer.TheVariants.{Done}
 use Rattle.driver_rules.specs.Open.{open_talk, command, pair_writes, address_writes, mask_writes, enable_writes}
 use Rattle.driver_rules.specs.Opens.{Opens}
 
@@ -39,13 +39,13 @@ module _ (d : Driver) (w₀ w₁ w₂ : ℕ) (a : Adapter) where
   abbrev writes : List Access
   writes = address_writes w₀ w₁ w₂ ++ (mask_writes ++ enable_writes)
 
-  open_run : run (open_talk d w₀ w₁ w₂) a ≡ record { answer = record { answer = Done; driver = opening d }; made = writes; adapter = after writes a }
+  open_run : run (open_talk d w₀ w₁ w₂) a ≡ record { answer = record { answer = Ok tt; driver = opening d }; made = writes; adapter = after writes a }
   unfolding run open_talk after
   open_run = refl
 
   pub opens : {c₁ c₂ c₃ : Card} {ram₁ dir₁ ram₂ dir₂ ram₃ dir₃ : List ℕ} (c : Card) (ram dir : List ℕ)
       → Stands c₁ ram₁ dir₁ (after (address_writes w₀ w₁ w₂) a) → Stands c₂ ram₂ dir₂ (after mask_writes (view c₁ ram₁ dir₁)) → Stands c₃ ram₃ dir₃ (after enable_writes (view c₂ ram₂ dir₂))
-      → Opens (run (open_talk d w₀ w₁ w₂) a) c ram dir (record { card = c₃; driver = opening d; answer = Done }) ram₃ dir₃
+      → Opens (run (open_talk d w₀ w₁ w₂) a) c ram dir (record { card = c₃; driver = opening d; answer = Ok tt }) ram₃ dir₃
   opens c ram dir s t u =
       rw open_run
       (record { answer = refl; driver = refl; taken = λ _. stands-then (address_writes w₀ w₁ w₂) (mask_writes ++ enable_writes) a s (stands-then mask_writes enable_writes _ t u); kept = λ n. never n })

@@ -1,4 +1,5 @@
 -- Each way through send is the run of its tree. `access` stays shut. Assumes nothing.
+use Rattle.std.specs.Prelude.{Ok, Err}
 use mathlib.Core.Path.{◌≡◌, refl, sym, ap}
 use mathlib.Core.Bool.{true, false}
 use mathlib.Core.List.{List, [], ◌∷◌}
@@ -18,7 +19,6 @@ use Rattle.driver_rules.specs.declared.Driver.{Driver}
 use Rattle.driver_rules.specs.Registers.{unfit}
 use Rattle.driver_rules.specs.Talk.{Ran, run, words_of, after_writes}
 use Rattle.driver_rules.proofs.Runs.{writes_law, stands-then, stands_one}
-use Rattle.driver_rules.specs.declared.SendAnswer.TheVariants.{Ticket, Refused}
 use Rattle.driver_rules.specs.Packet.{outside, lacks_room, packet_words}
 use Rattle.driver_rules.specs.Send.{Sending, refuses, ticketed, send_talk}
 use Rattle.driver_rules.specs.Sends.{Sends}
@@ -40,26 +40,26 @@ module _ (d : Driver) (p : List ℕ) (c : Card) (ram dir : List ℕ) where
   abbrev R : Ran Sending
   R = run (send_talk d p) (view c ram dir)
 
-  refused : (why : Refusal) → R.answer ≡ refuses d why → Sends R c ram dir (record { card = c; driver = d; answer = Refused why }) ram dir
+  refused : (why : Refusal) → R.answer ≡ refuses d why → Sends R c ram dir (record { card = c; driver = d; answer = Err why }) ram dir
   refused why e =
       record { answer = sym (ap (λ x. x.answer) e); driver = sym (ap (λ x. x.driver) e); taken = λ n. never (sym n); kept = λ _. (refl, (refl, refl)) }
 
-  pub unopened : d.opened ≡ false → Sends R c ram dir (record { card = c; driver = d; answer = Refused NeverOpened }) ram dir
+  pub unopened : d.opened ≡ false → Sends R c ram dir (record { card = c; driver = d; answer = Err NeverOpened }) ram dir
   unfolding run send_talk
   unopened o = refused NeverOpened (rw o)
 
   module _ (o : d.opened ≡ true) where
-    pub misfits : outside (length p) ≡ true → Sends R c ram dir (record { card = c; driver = d; answer = Refused LengthOutside }) ram dir
+    pub misfits : outside (length p) ≡ true → Sends R c ram dir (record { card = c; driver = d; answer = Err LengthOutside }) ram dir
     unfolding run send_talk
     misfits h = refused LengthOutside (rw (o, h))
 
     module _ (h : outside (length p) ≡ false) where
-      pub many : 15 < d.unreported → Sends R c ram dir (record { card = c; driver = d; answer = Refused SixteenUnreported }) ram dir
+      pub many : 15 < d.unreported → Sends R c ram dir (record { card = c; driver = d; answer = Err SixteenUnreported }) ram dir
       unfolding run send_talk
       many u = refused SixteenUnreported (rw (o, h, lt-ltb 15 d.unreported u))
 
       module _ (u : d.unreported ≤ 15) (v₁ : ℕ) (s₁ : Adapter) (e₁ : access (ReadWord 14) (view c ram dir) ≡ step v₁ s₁) where
-        pub unfits : unfit v₁ ≡ true → Sends R c ram dir (record { card = c; driver = d; answer = Refused CardUnfit }) ram dir
+        pub unfits : unfit v₁ ≡ true → Sends R c ram dir (record { card = c; driver = d; answer = Err CardUnfit }) ram dir
         unfolding run send_talk
         unfits w = refused CardUnfit (rw (o, h, le-ltb 15 d.unreported u, e₁, w))
 
@@ -69,12 +69,12 @@ module _ (d : Driver) (p : List ℕ) (c : Card) (ram dir : List ℕ) where
           unfolding run send_talk
           nothing_written f = rw (o, h, le-ltb 15 d.unreported u, e₁, w, e₂, f)
 
-          pub full : lacks_room v₂ (length p) ≡ true → Sends R c ram dir (record { card = c; driver = d; answer = Refused NoRoom }) ram dir
+          pub full : lacks_room v₂ (length p) ≡ true → Sends R c ram dir (record { card = c; driver = d; answer = Err NoRoom }) ram dir
           unfolding run send_talk
           full f = refused NoRoom (rw (o, h, le-ltb 15 d.unreported u, e₁, w, e₂, f))
 
           pub taken : lacks_room v₂ (length p) ≡ false → (e : Card) (ram' dir' : List ℕ) → Stands e ram' dir' (after_writes (packet_words p) s₂)
-              → Sends R c ram dir (record { card = e; driver = (ticketed d).driver; answer = Ticket d.sent }) ram' dir'
+              → Sends R c ram dir (record { card = e; driver = (ticketed d).driver; answer = Ok d.sent }) ram' dir'
           unfolding run send_talk
           taken f e ram' dir' last =
               rw (o, h, le-ltb 15 d.unreported u, e₁, w, e₂, f, writes_law)

@@ -1,4 +1,5 @@
 -- Each way through look and receive is the run of its tree. `access` stays shut. Assumes nothing.
+use Rattle.std.specs.Prelude.{Result, Err}
 use mathlib.Core.Path.{◌≡◌, refl, ap, subst⁻¹, ◌∙◌}
 use mathlib.Core.Bool.{Bool, true, false}
 use mathlib.Core.List.{List, [], ◌∷◌, ◌++◌}
@@ -8,6 +9,7 @@ use native.Mathlib.Omega.{arith}
 use lib.ListN.{length, length-append}
 use Rattle.bits.specs.Bits.{has}
 use Rattle.bits.proofs.Tests.{by_test}
+use Rattle.refusal.specs.declared.Refusal.{Refusal}
 use Rattle.refusal.specs.declared.Refusal.TheVariants.{BudgetShort, CardUnfit}
 use Rattle.card_rules.specs.declared.Card.{Card}
 use Rattle.card_rules.specs.Adapter.{Adapter}
@@ -16,8 +18,7 @@ use Rattle.driver_rules.specs.declared.Driver.{Driver}
 use Rattle.driver_rules.specs.Registers.{unfit, bad, length_in}
 use Rattle.driver_rules.specs.Talk.{Ran, extended, run}
 use Rattle.driver_rules.specs.declared.Served.{Served}
-use Rattle.driver_rules.specs.declared.Answer.{Answer}
-use Rattle.driver_rules.specs.declared.Answer.TheVariants.{Refused}
+use Rattle.driver_rules.specs.declared.Item.{Item}
 use Rattle.driver_rules.specs.Items.{Serving, plain, report_talk, idle_talk, fetch_talk}
 use Rattle.driver_rules.specs.Meets.{Ended, Tells}
 use Rattle.driver_rules.proofs.Count.{good-told}
@@ -31,7 +32,7 @@ unfolding Meets
 ends left R r s l₀ f₀ l f t = subst⁻¹ (λ (b : Bool). Meets b left R r s l₀ f₀ l f) t.ended t
 
 -- .. and hands nothing up
-still : (left : ℕ) (R : Ran Serving) (x : Answer) (d : Driver) (m : List Access) (s : Adapter) (c : Card) (more : ℕ) (l f : List ℕ)
+still : (left : ℕ) (R : Ran Serving) (x : Result Item Refusal) (d : Driver) (m : List Access) (s : Adapter) (c : Card) (more : ℕ) (l f : List ℕ)
     → R ≡ ran (plain x d) m s → length m + more ≡ left → Meets false left R (answered d c x more false) s l f l f
 unfolding Meets
 still left R x d m s c more l f e n = stops left R x d m s c more e n l f
@@ -60,7 +61,7 @@ onward true left less m R r s l₀ f₀ l f n t =
 -- ---- the pieces of the definition, by what the code tests
 
 module _ (d : Driver) (s s₁ : Adapter) (v : ℕ) where
-  looks_unfit : (left : ℕ) → (left ≡ 0 → ⊥) → access (ReadWord 14) s ≡ step v s₁ → unfit v ≡ true → run (look_talk left d) s ≡ ran (plain (Refused CardUnfit) d) (ReadWord 14 ∷ []) s₁
+  looks_unfit : (left : ℕ) → (left ≡ 0 → ⊥) → access (ReadWord 14) s ≡ step v s₁ → unfit v ≡ true → run (look_talk left d) s ≡ ran (plain (Err CardUnfit) d) (ReadWord 14 ∷ []) s₁
   unfolding run look_talk
   looks_unfit zero h e w = absurd (h refl)
   looks_unfit (suc k) h e w = rw (e, w)
@@ -99,13 +100,13 @@ module _ (d : Driver) (s s₁ : Adapter) (v : ℕ) where
 -- ---- look
 
 module _ (left : ℕ) (d : Driver) (s : Adapter) (l f : List ℕ) where
-  pub look_none : (c : Card) → left ≡ 0 → Meets false left (run (look_talk left d) s) (answered d c (Refused BudgetShort) 0 false) s l f l f
+  pub look_none : (c : Card) → left ≡ 0 → Meets false left (run (look_talk left d) s) (answered d c (Err BudgetShort) 0 false) s l f l f
   unfolding run look_talk
-  look_none c e = still left _ (Refused BudgetShort) d [] s c 0 l f (rw e) (omega arith)
+  look_none c e = still left _ (Err BudgetShort) d [] s c 0 l f (rw e) (omega arith)
 
   module _ (some : left ≡ 0 → ⊥) (s₁ : Adapter) (v : ℕ) (e₁ : access (ReadWord 14) s ≡ step v s₁) where
-    pub look-unfit : (c : Card) → unfit v ≡ true → Meets false left (run (look_talk left d) s) (answered d c (Refused CardUnfit) (left - 1) false) s₁ l f l f
-    look-unfit c w = still left _ (Refused CardUnfit) d (ReadWord 14 ∷ []) s₁ c (left - 1) l f (looks_unfit d s s₁ v left some e₁ w) (omega arith)
+    pub look-unfit : (c : Card) → unfit v ≡ true → Meets false left (run (look_talk left d) s) (answered d c (Err CardUnfit) (left - 1) false) s₁ l f l f
+    look-unfit c w = still left _ (Err CardUnfit) d (ReadWord 14 ∷ []) s₁ c (left - 1) l f (looks_unfit d s s₁ v left some e₁ w) (omega arith)
 
     module _ (w : unfit v ≡ false) where
       pub look-report : (r : Served) (s' : Adapter) → has 4 v ≡ true → Tells (left - 1) (run (report_talk (left - 1) d) s₁) r s' → Meets r.paused left (run (look_talk left d) s) r s' l f l f
@@ -127,17 +128,17 @@ module _ (left : ℕ) (d : Driver) (s : Adapter) (l f : List ℕ) where
 -- ---- receive
 
 module _ (left : ℕ) (d : Driver) (s : Adapter) (l f : List ℕ) where
-  pub receive_none : (c : Card) → left ≡ 0 → Meets false left (run (receive_talk left d) s) (answered d c (Refused BudgetShort) 0 false) s l f l f
+  pub receive_none : (c : Card) → left ≡ 0 → Meets false left (run (receive_talk left d) s) (answered d c (Err BudgetShort) 0 false) s l f l f
   unfolding run look_talk
-  receive_none c e = still left _ (Refused BudgetShort) d [] s c 0 l f (rw e) (omega arith)
+  receive_none c e = still left _ (Err BudgetShort) d [] s c 0 l f (rw e) (omega arith)
 
   module _ (some : left ≡ 0 → ⊥) (s₁ : Adapter) (v : ℕ) (e₁ : access (ReadWord 8) s ≡ step v s₁) where
     module _ (w : bad v ≡ true) where
-      pub receive_one : (c : Card) → left ≡ 1 → Meets false left (run (receive_talk left d) s) (answered d c (Refused BudgetShort) 0 false) s₁ l f l f
+      pub receive_one : (c : Card) → left ≡ 1 → Meets false left (run (receive_talk left d) s) (answered d c (Err BudgetShort) 0 false) s₁ l f l f
       unfolding run look_talk
       receive_one c e =
           let z : left - 1 ≡ 0 = omega arith in
-          still left _ (Refused BudgetShort) d (ReadWord 8 ∷ []) s₁ c 0 l f (receives_bad d s s₁ v left some e₁ w ∙ rw z) (omega arith)
+          still left _ (Err BudgetShort) d (ReadWord 8 ∷ []) s₁ c 0 l f (receives_bad d s s₁ v left some e₁ w ∙ rw z) (omega arith)
 
       module _ (more : left ≡ 1 → ⊥) (s₂ : Adapter) (x₂ : ℕ) (e₂ : access (WriteWord 14 16384) s₁ ≡ step x₂ s₂) where
         pub dropped : run (receive_talk left d) s ≡ extended (ReadWord 8 ∷ (WriteWord 14 16384 ∷ [])) (run (look_talk (left - 2) d) s₂)
@@ -145,7 +146,7 @@ module _ (left : ℕ) (d : Driver) (s : Adapter) (l f : List ℕ) where
             let z : left - 1 - 1 ≡ left - 2 = omega arith in
             receives_bad d s s₁ v left some e₁ w ∙ ap (extended (ReadWord 8 ∷ [])) (drops d s₁ s₂ x₂ (left - 1) (λ z. omega arith) e₂ ∙ rw z)
 
-        pub receive_pause : (c : Card) (a : Answer) → Meets true left (run (receive_talk left d) s) (answered d c a (left - 2) true) s₂ l f l f
+        pub receive_pause : (c : Card) (a : Result Item Refusal) → Meets true left (run (receive_talk left d) s) (answered d c a (left - 2) true) s₂ l f l f
         unfolding Meets discarded
         receive_pause c a =
             rw dropped

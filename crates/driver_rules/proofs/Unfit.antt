@@ -1,4 +1,5 @@
 -- Refusal 5 comes at the first Status read or not at all: no access of a service makes a fit card unfit. Assumes nothing.
+use Rattle.std.specs.Prelude.{Result, Ok, Err}
 use mathlib.Core.Path.{◌≡◌, refl, sym, ap, subst⁻¹, ◌∙◌}
 use mathlib.Core.Bool.{Bool, true, false, cond, not, ◌&&◌, ◌||◌}
 use mathlib.Core.List.{List, [], ◌∷◌}
@@ -7,6 +8,7 @@ use native.Mathlib.Omega.{arith}
 use borrow.Author.Tests.{eqb-true, not-false}
 use lib.Dec.{eqb, ltb}
 use lib.ListN.{take}
+use Rattle.refusal.specs.declared.Refusal.{Refusal}
 use Rattle.refusal.specs.declared.Refusal.TheVariants.{CardUnfit, BudgetShort}
 use Rattle.refusal.specs.Number.{number_of}
 use Rattle.bits.specs.Bits.{has}
@@ -26,9 +28,9 @@ use Rattle.driver_rules.specs.declared.Driver.{Driver}
 use Rattle.driver_rules.specs.Registers.{unfit, tx_complete, rx_complete, rx_discard, bad, length_in}
 use Rattle.driver_rules.specs.Talk.{Talk, done, ask, order, run, read_words}
 use Rattle.driver_rules.proofs.Status.{unfit-status}
-use Rattle.driver_rules.specs.declared.Answer.{Answer}
-use Rattle.driver_rules.specs.declared.Answer.TheVariants.{Reported, Status, Idle, Refused}
-use Rattle.driver_rules.specs.declared.Answer.TheVariants as answer
+use Rattle.driver_rules.specs.declared.Item.{Item}
+use Rattle.driver_rules.specs.declared.Item.TheVariants.{Reported, Status, Idle}
+use Rattle.driver_rules.specs.declared.Item.TheVariants as answer
 use Rattle.driver_rules.specs.Driver.{oldest_ticket, with_error}
 use Rattle.driver_rules.specs.Items.{Serving, plain, short, seen, is_error, reports, report_talk, idle_talk, fetch_talk, words_in}
 use Rattle.driver_rules.specs.Service.{look_talk, receive_talk, drop_talk}
@@ -37,10 +39,10 @@ use Rattle.driver_rules.specs.Unfit.{UnfitComesAtOnce}
 -- ---- talks that never answer 5, whatever is read
 
 Safe : Talk Serving → Adapter → Type 0
-Safe t a = (run t a).answer.answer ≡ Refused CardUnfit → ⊥
+Safe t a = (run t a).answer.answer ≡ Err CardUnfit → ⊥
 
 data Never : Talk Serving → Type 0 where
-  ends : {x : Serving} → (x.answer ≡ Refused CardUnfit → ⊥) → Never (done x)
+  ends : {x : Serving} → (x.answer ≡ Err CardUnfit → ⊥) → Never (done x)
   asks : {x : Access} {k : ℕ → Talk Serving} → ((v : ℕ) → Never (k v)) → Never (ask x k)
 
 safe : (t : Talk Serving) → Never t → (a : Adapter) → Safe t a
@@ -49,25 +51,22 @@ safe (done x) (ends h) a = h
 safe (ask x k) (asks h) a = safe (k (access x a).value) (h (access x a).value) (access x a).adapter
 
 -- the number of a refusal, 0 of another answer
-number : Answer → ℕ
-number (answer.Reported t s) = 0
-number (answer.Status s) = 0
-number (answer.Frame n) = 0
-number answer.Idle = 0
-number (answer.Refused why) = number_of why
+number : Result Item Refusal → ℕ
+number (Ok item) = 0
+number (Err why) = number_of why
 
-not_five : (x : Answer) → (number x ≡ 5 → ⊥) → x ≡ Refused CardUnfit → ⊥
+not_five : (x : Result Item Refusal) → (number x ≡ 5 → ⊥) → x ≡ Err CardUnfit → ⊥
 unfolding number
 not_five x h e = h (ap number e)
 
 short-ends : (d : Driver) → Never (done (short d))
 unfolding number
-short-ends d = ends (not_five (Refused BudgetShort) (λ e. omega arith))
+short-ends d = ends (not_five (Err BudgetShort) (λ e. omega arith))
 
 reports_never : (status : ℕ) (d : Driver) → Never (done (reports status d))
 unfolding reports number
 reports_never status d =
-    of_cond (λ (x : Serving). Never (done x)) (ltb 0 d.unreported) (ends (not_five (Reported (oldest_ticket d) status) (λ e. omega arith))) (ends (not_five (Status status) (λ e. omega arith)))
+    of_cond (λ (x : Serving). Never (done x)) (ltb 0 d.unreported) (ends (not_five (Ok (Reported (oldest_ticket d) status)) (λ e. omega arith))) (ends (not_five (Ok (Status status)) (λ e. omega arith)))
 
 report_never : (left : ℕ) (d : Driver) → Never (report_talk left d)
 unfolding report_talk
@@ -79,7 +78,7 @@ report_never left d =
 idle_never : (left : ℕ) (d : Driver) → Never (idle_talk left d)
 unfolding idle_talk number
 idle_never zero d = short-ends d
-idle_never (suc left) d = asks (λ _. ends (not_five Idle (λ e. omega arith)))
+idle_never (suc left) d = asks (λ _. ends (not_five (Ok Idle) (λ e. omega arith)))
 
 words_never : (w : ℕ) (k : List ℕ → Talk Serving) → ((bytes : List ℕ) → Never (k bytes)) → Never (read_words w k)
 unfolding read_words
@@ -90,8 +89,8 @@ fetch_never : (left : ℕ) (d : Driver) (n : ℕ) → Never (fetch_talk left d n
 unfolding fetch_talk number
 fetch_never left d n =
     of_cond Never (ltb left (words_in n + 1)) (short-ends d)
-    (words_never (words_in n) (λ bytes. order rx_discard 0 (done (record { answer = answer.Frame n; driver = d; bytes = take n bytes })))
-    (λ bytes. asks (λ _. ends (not_five (answer.Frame n) (λ e. omega arith)))))
+    (words_never (words_in n) (λ bytes. order rx_discard 0 (done (record { answer = Ok (answer.Frame n); driver = d; bytes = take n bytes })))
+    (λ bytes. asks (λ _. ends (not_five (Ok (answer.Frame n)) (λ e. omega arith)))))
 
 -- ---- a fit card stays fit
 
@@ -159,7 +158,7 @@ mutual
       let goes : Safe rest b =
       of_cond (λ (t : Talk Serving). Safe t b) (tx_complete status) (safe (report_talk left d) (report_never left d) b)
       (of_cond (λ (t : Talk Serving). Safe t b) (rx_complete status) (receive_safe left d b (fit-read a f)) (safe (idle_talk left d) (idle_never left d) b)) in
-      subst⁻¹ (λ (u : Bool). Safe (cond u (done (plain (Refused CardUnfit) d)) rest) b) (fit-status a f) goes
+      subst⁻¹ (λ (u : Bool). Safe (cond u (done (plain (Err CardUnfit) d)) rest) b) (fit-status a f) goes
 
   receive_safe : (n : ℕ) (d : Driver) (a : Adapter) → Fit a → Safe (receive_talk n d) a
   receive_safe zero d a f = safe (done (short d)) (short-ends d) a

@@ -1,4 +1,5 @@
 -- Each public call is the tree of its inner call under its refusals. Assumes nothing.
+use Rattle.std.specs.Prelude.{Err, ⊤}
 use mathlib.Core.Path.{◌≡◌, refl, sym, ap, subst⁻¹, ◌∙◌}
 use mathlib.Core.Bool.{Bool, true, false, cond, not, ◌&&◌}
 use mathlib.Core.List.{List, [], ◌∷◌}
@@ -15,19 +16,15 @@ use Rattle.card_rules.proofs.Checked.{card-told}
 use Rattle.driver_rules.specs.declared.Driver.{Driver}
 use Rattle.driver_rules.specs.Talk.{Talk, Ran, run}
 use Rattle.driver_rules.specs.Driver.{driver_sound}
-use Rattle.driver_rules.specs.declared.Answer.TheVariants as serving
 use Rattle.driver_rules.specs.Items.{Serving, plain}
 use Rattle.driver_rules.specs.Areas.{in_look, in_frame}
 use Rattle.driver_rules.specs.declared.Serviced.{Serviced}
 use Rattle.driver_rules.specs.Service.{look_talk}
 use Rattle.driver_rules.specs.Serves.{discarded, stopped, Unmoved}
 use Rattle.driver_rules.specs.Serving.{Serves}
-use Rattle.driver_rules.specs.declared.Opened.{Opened}
-use Rattle.driver_rules.specs.declared.OpenAnswer.TheVariants as opening
+use Rattle.driver_rules.specs.declared.After.{After}
 use Rattle.driver_rules.specs.Open.{open_talk}
 use Rattle.driver_rules.specs.Opens as inner_open
-use Rattle.driver_rules.specs.declared.Sent.{Sent}
-use Rattle.driver_rules.specs.declared.SendAnswer.TheVariants as sending
 use Rattle.driver_rules.specs.Send.{send_talk}
 use Rattle.driver_rules.specs.Sends as inner_send
 use Rattle.driver_rules.proofs.Unfit.{unfit_at_once}
@@ -53,11 +50,11 @@ module _ (c : Card) (ram dir : List ℕ) (d : Driver) where
   -- ---- open
 
   module _ (w₀ w₁ w₂ : ℕ) where
-    pub open_unsound : sound_state c ram dir d ≡ false → Opens c ram dir d w₀ w₁ w₂ (record { card = c; driver = d; answer = opening.Refused StateUnsound }) ram dir
+    pub open_unsound : sound_state c ram dir d ≡ false → Opens c ram dir d w₀ w₁ w₂ (record { card = c; driver = d; answer = Err StateUnsound }) ram dir
     unfolding open_call run
     open_unsound s = rw s (record { answer = refl; driver = refl; taken = λ n. never (sym n); kept = λ _. (refl, (refl, refl)) })
 
-    pub open_sound : (r : Opened) (ram' dir' : List ℕ) → sound_state c ram dir d ≡ true
+    pub open_sound : (r : After ⊤) (ram' dir' : List ℕ) → sound_state c ram dir d ≡ true
         → inner_open.Opens (run (open_talk d w₀ w₁ w₂) (view c ram dir)) c ram dir r ram' dir' → Opens c ram dir d w₀ w₁ w₂ r ram' dir'
     unfolding open_call
     open_sound r ram' dir' s o = rw s o
@@ -65,11 +62,11 @@ module _ (c : Card) (ram dir : List ℕ) (d : Driver) where
   -- ---- send
 
   module _ (packet : List ℕ) where
-    pub send-unsound : sound_state c ram dir d ≡ false → Sends c ram dir d packet (record { card = c; driver = d; answer = sending.Refused StateUnsound }) ram dir
+    pub send-unsound : sound_state c ram dir d ≡ false → Sends c ram dir d packet (record { card = c; driver = d; answer = Err StateUnsound }) ram dir
     unfolding send_call run
     send-unsound s = rw s (record { answer = refl; driver = refl; taken = λ n. never (sym n); kept = λ _. (refl, (refl, refl)) })
 
-    pub send-sound : (r : Sent) (ram' dir' : List ℕ) → sound_state c ram dir d ≡ true
+    pub send-sound : (r : After ℕ) (ram' dir' : List ℕ) → sound_state c ram dir d ≡ true
         → inner_send.Sends (run (send_talk d packet) (view c ram dir)) c ram dir r ram' dir' → Sends c ram dir d packet r ram' dir'
     unfolding send_call
     send-sound r ram' dir' s o = rw s o
@@ -83,8 +80,8 @@ module _ (c : Card) (ram dir : List ℕ) (d : Driver) where
     abbrev R : Ran Serving
     R = run (service_call (sound_state c ram dir d) (large look frame) d budget) (view c ram dir)
 
-    refused : (why : Refusal) → R.answer ≡ plain (serving.Refused why) d → length R.made ≡ 0 → begun ≡ false
-        → Services c ram dir d budget look frame (record { card = c; driver = d; answer = serving.Refused why; used = 0 }) ram dir look frame
+    refused : (why : Refusal) → R.answer ≡ plain (Err why) d → length R.made ≡ 0 → begun ≡ false
+        → Services c ram dir d budget look frame (record { card = c; driver = d; answer = Err why; used = 0 }) ram dir look frame
     unfolding in_look in_frame
     refused why e n b =
         record {
@@ -100,25 +97,25 @@ module _ (c : Card) (ram dir : List ℕ) (d : Driver) where
 
     -- refused 5, a service has read Status alone, and changes nothing
     pub five_keeps : (r : Serviced) (ram' dir' look' frame' : List ℕ) → Services c ram dir d budget look frame r ram' dir' look' frame'
-        → begun ≡ true → R.answer.answer ≡ serving.Refused CardUnfit → (r.card ≡ c) × ((ram' ≡ ram) × (dir' ≡ dir))
+        → begun ≡ true → R.answer.answer ≡ Err CardUnfit → (r.card ≡ c) × ((ram' ≡ ram) × (dir' ≡ dir))
     unfolding discarded
     five_keeps r ram' dir' look' frame' k b e =
         let m : R.made ≡ ReadWord 14 ∷ [] =
-        subst⁻¹ (λ (t : Talk Serving). (run t (view c ram dir)).answer.answer ≡ serving.Refused CardUnfit → (run t (view c ram dir)).made ≡ ReadWord 14 ∷ [])
+        subst⁻¹ (λ (t : Talk Serving). (run t (view c ram dir)).answer.answer ≡ Err CardUnfit → (run t (view c ram dir)).made ≡ ReadWord 14 ∷ [])
         (begun-look (sound_state c ram dir d) (large look frame) d budget b) (unfit_at_once budget d (view c ram dir)) e in
         (k.unmoved b).same (ap stopped e) (ap discarded m)
 
-    pub service-unsound : sound_state c ram dir d ≡ false → Services c ram dir d budget look frame (record { card = c; driver = d; answer = serving.Refused StateUnsound; used = 0 }) ram dir look frame
+    pub service-unsound : sound_state c ram dir d ≡ false → Services c ram dir d budget look frame (record { card = c; driver = d; answer = Err StateUnsound; used = 0 }) ram dir look frame
     unfolding service_call run
     service-unsound s = refused StateUnsound (rw s) (rw s) (rw s)
 
     module _ (s : sound_state c ram dir d ≡ true) where
-      pub service-unopened : d.opened ≡ false → Services c ram dir d budget look frame (record { card = c; driver = d; answer = serving.Refused NeverOpened; used = 0 }) ram dir look frame
+      pub service-unopened : d.opened ≡ false → Services c ram dir d budget look frame (record { card = c; driver = d; answer = Err NeverOpened; used = 0 }) ram dir look frame
       unfolding service_call run
       service-unopened o = refused NeverOpened (rw (s, o)) (rw (s, o)) (rw (s, o))
 
       module _ (o : d.opened ≡ true) where
-        pub service-tight : large look frame ≡ false → Services c ram dir d budget look frame (record { card = c; driver = d; answer = serving.Refused AreaShort; used = 0 }) ram dir look frame
+        pub service-tight : large look frame ≡ false → Services c ram dir d budget look frame (record { card = c; driver = d; answer = Err AreaShort; used = 0 }) ram dir look frame
         unfolding service_call run
         service-tight l = refused AreaShort (rw (s, o, l)) (rw (s, o, l)) (rw (s, o, l))
 

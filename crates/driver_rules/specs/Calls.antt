@@ -1,22 +1,19 @@
 -- The public calls: each as a tree of accesses under its refusals, and a record that says what its contract determines. Assumes nothing.
-use Rattle.std.specs.Prelude.{◌≡◌, Bool, true, false, cond, not, ◌&&◌, List, ℕ, length, leb}
+use Rattle.std.specs.Prelude.{◌≡◌, Bool, true, false, cond, not, ◌&&◌, List, ℕ, length, leb, Err, ⊤}
 use Rattle.refusal.specs.declared.Refusal.TheVariants.{StateUnsound, NeverOpened, AreaShort}
 use Rattle.card_rules.specs.declared.Card.{Card}
 use Rattle.card_rules.specs.View.{view, Stands, sound_card}
 use Rattle.driver_rules.specs.declared.Driver.{Driver}
 use Rattle.driver_rules.specs.Talk.{Talk, done, Ran, run}
 use Rattle.driver_rules.specs.Driver.{driver_sound}
-use Rattle.driver_rules.specs.declared.Answer.TheVariants as serving
 use Rattle.driver_rules.specs.Items.{Serving, plain}
 use Rattle.driver_rules.specs.Areas.{in_look, in_frame}
 use Rattle.driver_rules.specs.declared.Serviced.{Serviced}
 use Rattle.driver_rules.specs.Service.{look_talk}
 use Rattle.driver_rules.specs.Serves.{Unmoved}
-use Rattle.driver_rules.specs.declared.Opened.{Opened}
-use Rattle.driver_rules.specs.declared.OpenAnswer.TheVariants as opening
+use Rattle.driver_rules.specs.declared.After.{After}
 use Rattle.driver_rules.specs.Open.{Opening, open_talk}
 use Rattle.driver_rules.specs.Opens as inner_open
-use Rattle.driver_rules.specs.declared.Sent.{Sent}
 use Rattle.driver_rules.specs.Send.{Sending, refuses, send_talk}
 use Rattle.driver_rules.specs.Sends as inner_send
 
@@ -31,25 +28,25 @@ large look frame = leb 256 (length look) && leb 1514 (length frame)
 -- ---- the calls, refusal 1 first
 
 unfoldable pub open_call : Bool → Driver → ℕ → ℕ → ℕ → Talk Opening
-open_call sound d w₀ w₁ w₂ = cond sound (open_talk d w₀ w₁ w₂) (done (record { answer = opening.Refused StateUnsound; driver = d }))
+open_call sound d w₀ w₁ w₂ = cond sound (open_talk d w₀ w₁ w₂) (done (record { answer = Err StateUnsound; driver = d }))
 
 unfoldable pub send_call : Bool → Driver → List ℕ → Talk Sending
 send_call sound d packet = cond sound (send_talk d packet) (done (refuses d StateUnsound))
 
 unfoldable pub service_call : Bool → Bool → Driver → ℕ → Talk Serving
 service_call sound areas d budget =
-    cond (not sound) (done (plain (serving.Refused StateUnsound) d))
-    (cond (not d.opened) (done (plain (serving.Refused NeverOpened) d))
-    (cond (not areas) (done (plain (serving.Refused AreaShort) d))
+    cond (not sound) (done (plain (Err StateUnsound) d))
+    (cond (not d.opened) (done (plain (Err NeverOpened) d))
+    (cond (not areas) (done (plain (Err AreaShort) d))
     (look_talk budget d)))
 
 -- ---- what the contracts determine
 
-abbrev pub Opens : Card → List ℕ → List ℕ → Driver → ℕ → ℕ → ℕ → Opened → List ℕ → List ℕ → Type 0
+abbrev pub Opens : Card → List ℕ → List ℕ → Driver → ℕ → ℕ → ℕ → After ⊤ → List ℕ → List ℕ → Type 0
 Opens c ram dir d w₀ w₁ w₂ r ram' dir' =
     inner_open.Opens (run (open_call (sound_state c ram dir d) d w₀ w₁ w₂) (view c ram dir)) c ram dir r ram' dir'
 
-abbrev pub Sends : Card → List ℕ → List ℕ → Driver → List ℕ → Sent → List ℕ → List ℕ → Type 0
+abbrev pub Sends : Card → List ℕ → List ℕ → Driver → List ℕ → After ℕ → List ℕ → List ℕ → Type 0
 Sends c ram dir d packet r ram' dir' =
     inner_send.Sends (run (send_call (sound_state c ram dir d) d packet) (view c ram dir)) c ram dir r ram' dir'
 

@@ -1,25 +1,26 @@
 -- The items of a service, by the accesses that are left: a report, idle, a good frame. Assumes nothing.
-use Rattle.std.specs.Prelude.{Bool, false, cond, ◌||◌, ◌&&◌, List, [], ℕ, zero, suc, ◌+◌, ◌/◌, ◌%◌, take, ltb, eqb}
+use Rattle.std.specs.Prelude.{Bool, false, cond, ◌||◌, ◌&&◌, List, [], ℕ, zero, suc, ◌+◌, ◌/◌, ◌%◌, take, ltb, eqb, Result, Ok, Err}
+use Rattle.refusal.specs.declared.Refusal.{Refusal}
 use Rattle.refusal.specs.declared.Refusal.TheVariants.{BudgetShort}
 use Rattle.driver_rules.specs.declared.Driver.{Driver}
 use Rattle.driver_rules.specs.Registers.{rx_discard, tx_enable, acknowledge, tx_status}
 use Rattle.driver_rules.specs.Talk.{Talk, done, read_byte, write_byte, order, read_words}
 use Rattle.driver_rules.specs.Driver.{oldest_ticket, reporting, with_error}
-use Rattle.driver_rules.specs.declared.Answer.{Answer}
-use Rattle.driver_rules.specs.declared.Answer.TheVariants.{Reported, Status, Frame, Idle, Refused}
+use Rattle.driver_rules.specs.declared.Item.{Item}
+use Rattle.driver_rules.specs.declared.Item.TheVariants.{Reported, Status, Frame, Idle}
 
 -- The answer, the driver that is left, and the bytes that are handed up.
 pub record Serving : Type 0 where
-  pub answer : Answer
+  pub answer : Result Item Refusal
   pub driver : Driver
   pub bytes : List ℕ
 
-abbrev pub plain : Answer → Driver → Serving
+abbrev pub plain : Result Item Refusal → Driver → Serving
 plain x d = record { answer = x; driver = d; bytes = [] }
 
 -- Budget short: what lacks its accesses isn't begun.
 abbrev pub short : Driver → Serving
-short d = plain (Refused BudgetShort) d
+short d = plain (Err BudgetShort) d
 
 -- ---- TX Complete
 
@@ -35,8 +36,8 @@ seen d status = with_error (d.error || is_error status) d
 unfoldable pub reports : ℕ → Driver → Serving
 reports status d =
     cond (ltb 0 d.unreported)
-    (plain (Reported (oldest_ticket d) status) (reporting d))
-    (plain (Status status) d)
+    (plain (Ok (Reported (oldest_ticket d) status)) (reporting d))
+    (plain (Ok (Status status)) d)
 
 -- With 4 left, read TX Status, pop, read again; if an error was seen since the last TX Enable and the stack is now empty, TX Enable.
 unfoldable pub report_talk : ℕ → Driver → Talk Serving
@@ -58,7 +59,7 @@ acknowledged = 0x69
 -- Acknowledge 69h and answer idle, with 1 left.
 unfoldable pub idle_talk : ℕ → Driver → Talk Serving
 idle_talk zero d = done (short d)
-idle_talk (suc left) d = order acknowledge acknowledged (done (plain Idle d))
+idle_talk (suc left) d = order acknowledge acknowledged (done (plain (Ok Idle) d))
 
 -- ---- a good frame of n bytes
 
@@ -71,4 +72,4 @@ fetch_talk left d n =
     cond (ltb left (words_in n + 1)) (done (short d))
     (read_words (words_in n) (λ bytes.
     order rx_discard 0
-    (done (record { answer = Frame n; driver = d; bytes = take n bytes }))))
+    (done (record { answer = Ok (Frame n); driver = d; bytes = take n bytes }))))

@@ -1,16 +1,15 @@
 -- Open, as document 01's section "The driver's accesses" has it. Assumes nothing.
-use Rattle.std.specs.Prelude.{Bool, true, false, List, [], ◌∷◌, ◌++◌, ℕ, ◌+◌, ◌/◌, ◌%◌}
+use Rattle.std.specs.Prelude.{Bool, true, false, List, [], ◌∷◌, ◌++◌, ℕ, ◌+◌, ◌/◌, ◌%◌, Result, Ok, Err, ⊤}
+use Rattle.refusal.specs.declared.Refusal.{Refusal}
 use Rattle.card_rules.specs.Access.{Access, WriteWord, WriteByte}
 use Rattle.driver_rules.specs.declared.Driver.{Driver}
 use Rattle.driver_rules.specs.Registers.{command_port, select_window, rx_filter, read_zero, interrupt_mask, rx_enable, tx_enable}
 use Rattle.driver_rules.specs.Talk.{Talk, done, write_byte, order}
 use Rattle.driver_rules.specs.Driver.{opening}
-use Rattle.driver_rules.specs.declared.OpenAnswer.{OpenAnswer}
-use Rattle.driver_rules.specs.declared.OpenAnswer.TheVariants.{Done, Refused}
 
 -- The answer, and the driver that is left.
 pub record Opening : Type 0 where
-  pub answer : OpenAnswer
+  pub answer : Result ⊤ Refusal
   pub driver : Driver
 
 -- Select window 2; write the six address bytes, words 00h-02h as the caller hands them in, high byte first; select window 1; filter 5; Read Zero FFh; interrupt mask 0; RX Enable; TX Enable.
@@ -26,7 +25,7 @@ open_talk d w₀ w₁ w₂ =
     (order interrupt_mask 0
     (order rx_enable 0
     (order tx_enable 0
-    (done (record { answer = Done; driver = opening d }))))))))))))))
+    (done (record { answer = Ok tt; driver = opening d }))))))))))))))
 
 -- ---- the same accesses in the parts that the code takes
 
@@ -45,6 +44,6 @@ mask_writes = command (select_window + 1) ∷ (command (rx_filter + 5) ∷ (comm
 abbrev pub enable_writes : List Access
 enable_writes = command interrupt_mask ∷ (command rx_enable ∷ (command tx_enable ∷ []))
 
-abbrev pub refusing : OpenAnswer → Bool
-refusing Done = false
-refusing (Refused why) = true
+abbrev pub refusing : Result ⊤ Refusal → Bool
+refusing (Ok _) = false
+refusing (Err why) = true

@@ -1,5 +1,5 @@
 -- Send, as document 01's section "The driver's accesses" has it. Assumes nothing.
-use Rattle.std.specs.Prelude.{Bool, true, false, cond, not, List, ℕ, length, ltb}
+use Rattle.std.specs.Prelude.{Bool, true, false, cond, not, List, ℕ, length, ltb, Result, Ok, Err}
 use Rattle.refusal.specs.declared.Refusal.{Refusal}
 use Rattle.refusal.specs.declared.Refusal.TheVariants.{NeverOpened, LengthOutside, SixteenUnreported, CardUnfit, NoRoom}
 use Rattle.driver_rules.specs.declared.Driver.{Driver}
@@ -7,20 +7,18 @@ use Rattle.driver_rules.specs.Registers.{status_port, tx_free, unfit}
 use Rattle.driver_rules.specs.Talk.{Talk, done, read_word, write_words}
 use Rattle.driver_rules.specs.Packet.{outside, lacks_room, packet_words}
 use Rattle.driver_rules.specs.Driver.{sending}
-use Rattle.driver_rules.specs.declared.SendAnswer.{SendAnswer}
-use Rattle.driver_rules.specs.declared.SendAnswer.TheVariants.{Ticket, Refused}
 
 -- The answer, and the driver that is left.
 pub record Sending : Type 0 where
-  pub answer : SendAnswer
+  pub answer : Result ℕ Refusal
   pub driver : Driver
 
 abbrev pub refuses : Driver → Refusal → Sending
-refuses d why = record { answer = Refused why; driver = d }
+refuses d why = record { answer = Err why; driver = d }
 
 -- The ticket is the count of earlier packets modulo 65,536.
 abbrev pub ticketed : Driver → Sending
-ticketed d = record { answer = Ticket d.sent; driver = sending d }
+ticketed d = record { answer = Ok d.sent; driver = sending d }
 
 -- Refusals 13, 2 and 3; read Status, refusal 5; read TX Free, refusal 4; the words.
 unfoldable pub send_talk : Driver → List ℕ → Talk Sending
@@ -34,6 +32,6 @@ send_talk d packet =
     cond (lacks_room free (length packet)) (done (refuses d NoRoom))
     (write_words (packet_words packet) (done (ticketed d)))))))))
 
-abbrev pub refusing : SendAnswer → Bool
-refusing (Ticket n) = false
-refusing (Refused why) = true
+abbrev pub refusing : Result ℕ Refusal → Bool
+refusing (Ok n) = false
+refusing (Err why) = true

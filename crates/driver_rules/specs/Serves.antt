@@ -1,13 +1,13 @@
 -- What the contracts say of a part of a service. Assumes nothing.
-use Rattle.std.specs.Prelude.{◌≡◌, Bool, true, false, ◌&&◌, ◌||◌, List, [], ◌∷◌, ℕ, ◌<◌, ◌+◌, length, eqb}
+use Rattle.std.specs.Prelude.{◌≡◌, Bool, true, false, ◌&&◌, ◌||◌, List, [], ◌∷◌, ℕ, ◌<◌, ◌+◌, length, eqb, Result, Ok, Err}
+use Rattle.refusal.specs.declared.Refusal.{Refusal}
 use Rattle.card_rules.specs.declared.Card.{Card}
 use Rattle.card_rules.specs.Adapter.{Adapter}
 use Rattle.card_rules.specs.Access.{Access, ReadWord, ReadByte, WriteWord, WriteByte}
 use Rattle.driver_rules.specs.Registers.{command_port, rx_discard}
 use Rattle.driver_rules.specs.Talk.{Ran, run}
 use Rattle.driver_rules.specs.declared.Served.{Served}
-use Rattle.driver_rules.specs.declared.Answer.{Answer}
-use Rattle.driver_rules.specs.declared.Answer.TheVariants.{Reported, Status, Frame, Idle, Refused}
+use Rattle.driver_rules.specs.declared.Item.{Item}
 use Rattle.driver_rules.specs.Items.{Serving}
 use Rattle.driver_rules.specs.Meets.{Ended}
 use Rattle.driver_rules.specs.Service.{look_talk}
@@ -24,12 +24,9 @@ discarded [] = false
 discarded (x ∷ xs) = is_discard x || discarded xs
 
 -- The answer is a refusal: once begun, 5 or 6.
-abbrev pub stopped : Answer → Bool
-stopped (Reported ticket status) = false
-stopped (Status status) = false
-stopped (Frame n) = false
-stopped Idle = false
-stopped (Refused why) = true
+abbrev pub stopped : Result Item Refusal → Bool
+stopped (Ok item) = false
+stopped (Err why) = true
 
 -- with `left` accesses the run R goes on as the run Q with `more`
 pub record GoesOn (left : ℕ) (R : Ran Serving) (more : ℕ) (Q : Ran Serving) : Type 0 where

@@ -1,10 +1,9 @@
 -- Service, as document 01's section "The driver's accesses" has it, by the accesses that are left. Assumes nothing.
-use Rattle.std.specs.Prelude.{cond, ℕ, zero, suc}
+use Rattle.std.specs.Prelude.{cond, ℕ, zero, suc, Err}
 use Rattle.refusal.specs.declared.Refusal.TheVariants.{CardUnfit}
 use Rattle.driver_rules.specs.declared.Driver.{Driver}
 use Rattle.driver_rules.specs.Registers.{status_port, rx_status, rx_discard, unfit, tx_complete, rx_complete, bad, length_in}
 use Rattle.driver_rules.specs.Talk.{Talk, done, read_word, order}
-use Rattle.driver_rules.specs.declared.Answer.TheVariants.{Refused}
 use Rattle.driver_rules.specs.Items.{Serving, plain, short, report_talk, idle_talk, fetch_talk}
 
 unfoldable mutual
@@ -13,7 +12,7 @@ unfoldable mutual
   look_talk zero d = done (short d)
   look_talk (suc left) d =
       read_word status_port (λ status.
-      cond (unfit status) (done (plain (Refused CardUnfit) d))
+      cond (unfit status) (done (plain (Err CardUnfit) d))
       (cond (tx_complete status) (report_talk left d)
       (cond (rx_complete status) (receive_talk left d)
       (idle_talk left d))))

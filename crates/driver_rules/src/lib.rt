@@ -41,9 +41,9 @@ pub struct Driver {
     pub error: bool,
 }
 
-// What service answers; the count of accesses stands beside it.
+// An item of a service.
 #[derive(Clone, Copy)]
-pub enum Answer {
+pub enum Item {
     // The oldest unreported ticket, and the status.
     Reported(u16, u16),
     // The status alone: no packet is unreported.
@@ -51,7 +51,6 @@ pub enum Answer {
     // The bytes of a frame: up to 256 lie in the lookahead area, more in the frame area.
     Frame(usize),
     Idle,
-    Refused(Refusal),
 }
 
 // What a part of a service leaves. Paused, it goes on with a look at the accesses left.
@@ -59,41 +58,24 @@ pub enum Answer {
 pub struct Served {
     pub driver: Driver,
     pub card: Card,
-    pub answer: Answer,
+    pub answer: Result<Item, Refusal>,
     pub left: usize,
     pub paused: bool,
 }
 
+// Card and driver after a service, what it answers, and the accesses used.
 #[derive(Clone, Copy)]
 pub struct Serviced {
     pub card: Card,
     pub driver: Driver,
-    pub answer: Answer,
+    pub answer: Result<Item, Refusal>,
     pub used: usize,
 }
 
+// Card and driver after an open, which answers nothing, or after a send, which answers the ticket.
 #[derive(Clone, Copy)]
-pub enum OpenAnswer {
-    Done,
-    Refused(Refusal),
-}
-
-#[derive(Clone, Copy)]
-pub struct Opened {
+pub struct After<T> {
     pub card: Card,
     pub driver: Driver,
-    pub answer: OpenAnswer,
-}
-
-#[derive(Clone, Copy)]
-pub enum SendAnswer {
-    Ticket(u16),
-    Refused(Refusal),
-}
-
-#[derive(Clone, Copy)]
-pub struct Sent {
-    pub card: Card,
-    pub driver: Driver,
-    pub answer: SendAnswer,
+    pub answer: Result<T, Refusal>,
 }

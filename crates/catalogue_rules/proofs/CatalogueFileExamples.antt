@@ -3,11 +3,11 @@ use Prim.Native.Nat.{ℕ, zero, suc, ◌+◌}
 use mathlib.Core.Path.{◌≡◌, refl}
 use mathlib.Core.List.{List, [], ◌∷◌, ◌++◌}
 use lib.ListN.{replicate}
+use Rattle.std.specs.Prelude.{Ok, Err}
 use Rattle.refusal.specs.declared.Refusal.TheVariants.{FieldDamaged, FileEndsEarly, NoPlace, ListedTwice}
 use Rattle.catalogue_rules.specs.Field.{Field, field, is_whole, fields_within, fields_of, left_within, left_of, bytes_of}
-use Rattle.catalogue_rules.specs.declared.Judged.TheVariants.{Sound, Refused}
 use Rattle.catalogue_rules.specs.Turns.{address_of, after}
-use Rattle.catalogue_rules.specs.Reading.{catalogue, file_of, reading, addresses_of, any_twice, roomy, read, judged}
+use Rattle.catalogue_rules.specs.Reading.{catalogue, file_of, reading, addresses_of, any_twice, roomy, read, judged, counts}
 
 -- The card whose address ends in a.
 card : ℕ → Field
@@ -40,19 +40,19 @@ unfolding file_of bytes_of one one_bytes card number image
 one_written = refl
 
 -- A count of 2 or 4 fields, or one more byte behind the count, is damage; a file without a count ends early.
-counts_2 : judged (read (one (4 ∷ 2 ∷ 0 ∷ 2 ∷ 0 ∷ []))) ≡ Refused FieldDamaged
+counts_2 : judged (read (one (4 ∷ 2 ∷ 0 ∷ 2 ∷ 0 ∷ []))) ≡ Err FieldDamaged
 unfolding read reading addresses_of any_twice address_of after fields_of left_of fields_within left_within is_whole one one_bytes
 counts_2 = refl
 
-counts_4 : judged (read (one (4 ∷ 2 ∷ 0 ∷ 4 ∷ 0 ∷ []))) ≡ Refused FieldDamaged
+counts_4 : judged (read (one (4 ∷ 2 ∷ 0 ∷ 4 ∷ 0 ∷ []))) ≡ Err FieldDamaged
 unfolding read reading addresses_of any_twice address_of after fields_of left_of fields_within left_within is_whole one one_bytes
 counts_4 = refl
 
-byte-behind : judged (read (one (4 ∷ 2 ∷ 0 ∷ 3 ∷ 0 ∷ 9 ∷ []))) ≡ Refused FieldDamaged
+byte-behind : judged (read (one (4 ∷ 2 ∷ 0 ∷ 3 ∷ 0 ∷ 9 ∷ []))) ≡ Err FieldDamaged
 unfolding read reading addresses_of any_twice address_of after fields_of left_of fields_within left_within is_whole one one_bytes
 byte-behind = refl
 
-no-count : judged (read (one [])) ≡ Refused FileEndsEarly
+no-count : judged (read (one [])) ≡ Err FileEndsEarly
 unfolding read reading addresses_of any_twice address_of after fields_of left_of fields_within left_within is_whole one one_bytes
 no-count = refl
 
@@ -62,21 +62,21 @@ unfolding read reading addresses_of any_twice address_of after fields_of left_of
 unknown_stays = refl
 
 -- Eight versions of a card are read, a ninth is damage.
-eight : judged (read (file_of (card 1 ∷ versions 1 8))) ≡ Sound 1 17
+eight : judged (read (file_of (card 1 ∷ versions 1 8))) ≡ Ok (counts 1 17)
 unfolding read reading addresses_of any_twice address_of after fields_of left_of fields_within left_within is_whole file_of bytes_of card number image versions
 eight = refl
 
-ninth : judged (read (file_of (card 1 ∷ versions 1 9))) ≡ Refused FieldDamaged
+ninth : judged (read (file_of (card 1 ∷ versions 1 9))) ≡ Err FieldDamaged
 unfolding read reading addresses_of any_twice address_of after fields_of left_of fields_within left_within is_whole file_of bytes_of card number image versions
 ninth = refl
 
 -- A number that comes again does not rise.
-same_number : judged (read (file_of (card 1 ∷ (versions 5 1 ++ versions 5 1)))) ≡ Refused FieldDamaged
+same_number : judged (read (file_of (card 1 ∷ (versions 5 1 ++ versions 5 1)))) ≡ Err FieldDamaged
 unfolding read reading addresses_of any_twice address_of after fields_of left_of fields_within left_within is_whole file_of bytes_of card number image versions
 same_number = refl
 
 -- An address listed twice.
-listed_twice_lem : judged (read (file_of ((card 1 ∷ versions 1 1) ++ ((card 2 ∷ versions 1 1) ++ (card 1 ∷ versions 1 1))))) ≡ Refused ListedTwice
+listed_twice_lem : judged (read (file_of ((card 1 ∷ versions 1 1) ++ ((card 2 ∷ versions 1 1) ++ (card 1 ∷ versions 1 1))))) ≡ Err ListedTwice
 unfolding read reading addresses_of any_twice address_of after fields_of left_of fields_within left_within is_whole file_of bytes_of card number image versions
 listed_twice_lem = refl
 
@@ -85,10 +85,10 @@ cards : ℕ → List Field
 cards zero = []
 cards (suc n) = card n ∷ number 1 ∷ image ∷ cards n
 
-room_for_64 : judged (roomy (catalogue (cards 64))) ≡ Sound 64 192
+room_for_64 : judged (roomy (catalogue (cards 64))) ≡ Ok (counts 64 192)
 unfolding addresses_of any_twice address_of card number image cards
 room_for_64 = refl
 
-none_for_65 : judged (roomy (catalogue (cards 65))) ≡ Refused NoPlace
+none_for_65 : judged (roomy (catalogue (cards 65))) ≡ Err NoPlace
 unfolding addresses_of any_twice address_of card number image cards
 none_for_65 = refl

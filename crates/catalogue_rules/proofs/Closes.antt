@@ -8,14 +8,15 @@ use native.Mathlib.Omega.{arith}
 use borrow.Author.Tests.{eq-eqb, ne_eqb}
 use lib.ListN.{length}
 use lib.Dec.{eqb}
+use Rattle.std.specs.Prelude.{Result, Ok, Err}
+use Rattle.refusal.specs.declared.Refusal.{Refusal}
+use Rattle.catalogue_rules.specs.declared.Counts.{Counts}
 use Rattle.refusal.specs.declared.Refusal.TheVariants.{FieldDamaged}
 use Rattle.catalogue_rules.specs.Field.{Field, field, number_at, is_whole, fields_of, left_of}
 use Rattle.catalogue_rules.proofs.Runs.{is_cut, fields_step, fields_stop, left_stop}
 use Rattle.catalogue_rules.specs.declared.Turn.{Turn}
-use Rattle.catalogue_rules.specs.declared.Judged.{Judged}
-use Rattle.catalogue_rules.specs.declared.Judged.TheVariants.{Sound, Refused}
 use Rattle.catalogue_rules.specs.Turns.{may_end}
-use Rattle.catalogue_rules.specs.Reading.{catalogue, refused, is_last, addresses_of, judged}
+use Rattle.catalogue_rules.specs.Reading.{catalogue, refused, is_last, addresses_of, judged, counts}
 use Rattle.catalogue_rules.specs.FileWalk.{behind_so, closes}
 use Rattle.catalogue_rules.proofs.Bools.{and_no, and_yes}
 
@@ -34,32 +35,32 @@ none_left : (rest : List ℕ) → length rest ≤ 0 → is_last (fields_of rest)
 none_left [] h = nothing_left
 none_left (x ∷ xs) h = absurd (omega arith)
 
-shown : ℕ → ℕ → Bool → Judged
+shown : ℕ → ℕ → Bool → Result Counts Refusal
 shown cards n t = behind_so cards n (judged (cond t (catalogue []) (refused FieldDamaged)))
 
-fails : (cards n : ℕ) (t : Bool) → t ≡ false → Refused FieldDamaged ≡ shown cards n t
+fails : (cards n : ℕ) (t : Bool) → t ≡ false → Err FieldDamaged ≡ shown cards n t
 unfolding shown
 fails cards n t e = rw e
 
-holds : (cards n : ℕ) (t : Bool) → t ≡ true → Sound cards n ≡ shown cards n t
+holds : (cards n : ℕ) (t : Bool) → t ≡ true → Ok (counts cards n) ≡ shown cards n t
 unfolding shown addresses_of
 holds cards n t e =
     let p : cards ≡ cards + 0 = omega arith in
     let q : n ≡ n + 0 = omega arith in
-    ap₂ (λ (x y : ℕ). Sound x y) p q ∙ ap (λ (s : Bool). behind_so cards n (judged (cond s (catalogue []) (refused FieldDamaged)))) (sym e)
+    ap₂ (λ (x y : ℕ). Ok (counts x y)) p q ∙ ap (λ (s : Bool). behind_so cards n (judged (cond s (catalogue []) (refused FieldDamaged)))) (sym e)
 
 module _ (turn : Turn) (n cards : ℕ) (v rest : List ℕ) where
-  unended : may_end turn ≡ false → Refused FieldDamaged ≡ closes turn n cards (field 4 v) rest
+  unended : may_end turn ≡ false → Err FieldDamaged ≡ closes turn n cards (field 4 v) rest
   unfolding closes shown
   unended m = fails cards n _ (and_no (may_end turn) _ m)
 
   module _ (m : may_end turn ≡ true) where
-    pub misfit : (length v ≡ 2 → ⊥) → Refused FieldDamaged ≡ closes turn n cards (field 4 v) rest
+    pub misfit : (length v ≡ 2 → ⊥) → Err FieldDamaged ≡ closes turn n cards (field 4 v) rest
     unfolding closes shown
     misfit two = fails cards n _ (and_yes (may_end turn) _ false m (and_no (eqb (length v) 2) _ (ne_eqb (length v) 2 two)))
 
     module _ (two : length v ≡ 2) where
-      pub miscounted : (number_at v 0 ≡ n → ⊥) → Refused FieldDamaged ≡ closes turn n cards (field 4 v) rest
+      pub miscounted : (number_at v 0 ≡ n → ⊥) → Err FieldDamaged ≡ closes turn n cards (field 4 v) rest
       unfolding closes shown
       miscounted k =
           fails cards n _ (and_yes (may_end turn) _ false m (and_yes (eqb (length v) 2) _ false (eq-eqb (length v) 2 two) (and_no (eqb (number_at v 0) n) _ (ne_eqb (number_at v 0) n k))))
@@ -69,13 +70,13 @@ module _ (turn : Turn) (n cards : ℕ) (v rest : List ℕ) where
             → may_end turn && (eqb (length v) 2 && (eqb (number_at v 0) n && is_last (fields_of rest) (left_of rest))) ≡ t
         ended t e = and_yes (may_end turn) _ t m (and_yes (eqb (length v) 2) _ t (eq-eqb (length v) 2 two) (and_yes (eqb (number_at v 0) n) _ t (eq-eqb (number_at v 0) n k) e))
 
-        pub followed : 0 < length rest → Refused FieldDamaged ≡ closes turn n cards (field 4 v) rest
+        pub followed : 0 < length rest → Err FieldDamaged ≡ closes turn n cards (field 4 v) rest
         unfolding closes shown
         followed h = fails cards n _ (ended false (some_left rest h))
 
-        pub closed : length rest ≤ 0 → Sound cards n ≡ closes turn n cards (field 4 v) rest
+        pub closed : length rest ≤ 0 → Ok (counts cards n) ≡ closes turn n cards (field 4 v) rest
         unfolding closes shown
         closed h = holds cards n _ (ended true (none_left rest h))
 
-pub not-ended : (turn : Turn) (n cards : ℕ) (v rest : List ℕ) → may_end turn ≡ false → Refused FieldDamaged ≡ closes turn n cards (field 4 v) rest
+pub not-ended : (turn : Turn) (n cards : ℕ) (v rest : List ℕ) → may_end turn ≡ false → Err FieldDamaged ≡ closes turn n cards (field 4 v) rest
 not-ended = unended

@@ -8,8 +8,10 @@ use native.Mathlib.Omega.{arith}
 use borrow.Author.Tests.{eqb-true, eq-eqb}
 use lib.ListN.{length}
 use lib.Dec.{eqb}
+use Rattle.std.specs.Prelude.{Result}
+use Rattle.refusal.specs.declared.Refusal.{Refusal}
+use Rattle.image_rules.specs.declared.Node.{Node}
 use Rattle.refusal.specs.declared.Refusal.TheVariants.{LengthOutside}
-use Rattle.image_rules.specs.declared.Checked.{Checked}
 use Rattle.image_rules.specs.Image.{or_refused, check_of}
 use Rattle.catalogue_rules.specs.Field.{Field, field}
 use Rattle.catalogue_rules.specs.declared.Turn.{Turn}
@@ -22,7 +24,7 @@ use Rattle.catalogue_rules.proofs.Round.{written_is_read_lem}
 use Rattle.catalogue_rules.specs.Archive.{row_of, address_in, moved_in, latest_of, images_of, is_sound, AllSound, addresses_in, OutAfterIn}
 
 -- A sound image has 128 bytes.
-sound-if : (t : Bool) (rest : Checked) → is_sound (or_refused t LengthOutside rest) ≡ true → t ≡ true
+sound-if : (t : Bool) (rest : Result Node Refusal) → is_sound (or_refused t LengthOutside rest) ≡ true → t ≡ true
 sound-if true rest e = refl
 sound-if false rest e = absurd (false≢true e)
 

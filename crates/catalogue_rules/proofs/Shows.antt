@@ -7,6 +7,8 @@ use mathlib.Core.List.{List, [], ◌∷◌}
 use native.Mathlib.Omega.{arith}
 use lib.ListN.{length, take, drop}
 use lib.Dec.{eqb}
+use Rattle.std.specs.Prelude.{Result, Ok, Err}
+use Rattle.catalogue_rules.specs.declared.Span.{Span}
 use Rattle.refusal.specs.declared.Refusal.{Refusal}
 use Rattle.refusal.specs.declared.Refusal.TheVariants.{NoSuchCard, NoPlace, ListedTwice}
 use Rattle.catalogue_rules.specs.Field.{Field, number_at, fields_of, left_of}
@@ -14,9 +16,7 @@ use Rattle.catalogue_rules.proofs.At.{either_way}
 use Rattle.catalogue_rules.specs.Turns.{address_of}
 use Rattle.catalogue_rules.specs.Reading.{Reading, catalogue, refused, parsed, has_room, addresses_of, is_among, any_twice, roomy, read}
 use Rattle.catalogue_rules.specs.Cards.{Version, versions_from, versions_at}
-use Rattle.catalogue_rules.specs.declared.Place.{Place}
-use Rattle.catalogue_rules.specs.declared.Place.TheVariants.{At, Refused}
-use Rattle.catalogue_rules.specs.Lookup.{Spot, spot, spots_from, spots_at, last_spot, numbered_spot, where_sound, latest_in, given_in, in_override, in_main, else_main, looked_up, Shown, image, none, shown_at, shown_in}
+use Rattle.catalogue_rules.specs.Lookup.{Spot, spot, spots_from, spots_at, last_spot, numbered_spot, where_sound, latest_in, given_in, in_override, in_main, else_main, looked_up, Shown, image, none, shown_at, shown_in, span}
 use Rattle.catalogue_rules.specs.Places.{last_of, numbered_in, latest_shown, given_shown, lookup_shown, FromOverride, PlacesShow}
 use Rattle.catalogue_rules.proofs.Spots.{next_place, is_turned}
 use Rattle.catalogue_rules.proofs.Accepted.{was_read_lem, spots_parsed, versions-parsed}
@@ -76,18 +76,18 @@ module _ (file : List ℕ) where
       ∙ ap (versions_at a) (sym st.is_first))
       (λ s. ap (λ (fs : List Field). showing file (spots_at a at fs)) s.none ∙ ap (versions_at a) (sym s.none))
 
-  shows-last : (p : Place) (ss : List Spot) → shown_at file (last_spot p ss) ≡ last_of (shown_at file p) (showing file ss)
+  shows-last : (p : Result Span Refusal) (ss : List Spot) → shown_at file (last_spot p ss) ≡ last_of (shown_at file p) (showing file ss)
   unfolding last_spot last_of showing
   shows-last p [] = refl
-  shows-last p (s ∷ ss) = shows-last (At s.start s.size) ss
+  shows-last p (s ∷ ss) = shows-last (Ok (span s.start s.size)) ss
 
-  numbered-if : (b : Bool) (start len : ℕ) (p : Place) (s : Shown) → shown_at file p ≡ s → shown_at file (cond b (At start len) p) ≡ cond b (image (take len (drop start file))) s
+  numbered-if : (b : Bool) (start len : ℕ) (p : Result Span Refusal) (s : Shown) → shown_at file p ≡ s → shown_at file (cond b (Ok (span start len)) p) ≡ cond b (image (take len (drop start file))) s
   numbered-if true start len p s e = refl
   numbered-if false start len p s e = e
 
   -- The newest image behind a place.
-  pub shows-newest : (at : ℕ) → shown_at file (last_spot (Refused NoSuchCard) (spots_from at 0 (fields_of (drop at file)))) ≡ last_of (none NoSuchCard) (versions_from 0 (fields_of (drop at file)))
-  shows-newest at = shows-last (Refused NoSuchCard) (spots_from at 0 (fields_of (drop at file))) ∙ ap (last_of (none NoSuchCard)) (shows-behind at)
+  pub shows-newest : (at : ℕ) → shown_at file (last_spot (Err NoSuchCard) (spots_from at 0 (fields_of (drop at file)))) ≡ last_of (none NoSuchCard) (versions_from 0 (fields_of (drop at file)))
+  shows-newest at = shows-last (Err NoSuchCard) (spots_from at 0 (fields_of (drop at file))) ∙ ap (last_of (none NoSuchCard)) (shows-behind at)
 
   shows-numbered : (n : ℕ) (ss : List Spot) → shown_at file (numbered_spot n ss) ≡ numbered_in n (showing file ss)
   unfolding numbered_spot numbered_in showing
@@ -107,9 +107,9 @@ unfolding last_of last-image
 last_is s v [] = refl
 last_is s v (w ∷ vs) = last_is (image v.image) w vs
 
-sound-place : (p : Place) → where_sound true false p ≡ p
-sound-place (At start len) = refl
-sound-place (Refused why) = refl
+sound-place : (p : Result Span Refusal) → where_sound true false p ≡ p
+sound-place (Ok p) = refl
+sound-place (Err why) = refl
 
 -- A sound file has room and lists no address twice.
 pub record Sound (file : List ℕ) (fs : List Field) : Type 0 where
@@ -132,12 +132,12 @@ sound file fs e =
     record { was_parsed = was_read_lem file fs e; room = both.0; apart = both.1 }
 
 module _ (file : List ℕ) (fs : List Field) (e : read file ≡ catalogue fs) where
-  unfaulty : (p : Place) → where_sound (has_room fs) (any_twice (addresses_of fs)) p ≡ p
+  unfaulty : (p : Result Span Refusal) → where_sound (has_room fs) (any_twice (addresses_of fs)) p ≡ p
   unfaulty p = ap₂ (λ (a b : Bool). where_sound a b p) (sound file fs e).room (sound file fs e).apart ∙ sound-place p
 
-  pub latest_is : (a : ℕ) → latest_in a (parsed file) ≡ last_spot (Refused NoSuchCard) (spots_at a 0 fs)
+  pub latest_is : (a : ℕ) → latest_in a (parsed file) ≡ last_spot (Err NoSuchCard) (spots_at a 0 fs)
   unfolding latest_in
-  latest_is a = ap (latest_in a) (was_read_lem file fs e) ∙ unfaulty (last_spot (Refused NoSuchCard) (spots_at a 0 fs))
+  latest_is a = ap (latest_in a) (was_read_lem file fs e) ∙ unfaulty (last_spot (Err NoSuchCard) (spots_at a 0 fs))
 
   given_is : (a n : ℕ) → given_in a n (parsed file) ≡ numbered_spot n (spots_at a 0 fs)
   unfolding given_in
@@ -150,7 +150,7 @@ module _ (file : List ℕ) (fs : List Field) (e : read file ≡ catalogue fs) wh
       ∙ versions-parsed file fs (was_read_lem file fs e) a
 
   latest-shows : (a : ℕ) → latest_shown a file ≡ last_of (none NoSuchCard) (versions_at a fs)
-  latest-shows a = ap (shown_at file) (latest_is a) ∙ shows-last file (Refused NoSuchCard) (spots_at a 0 fs) ∙ ap (last_of (none NoSuchCard)) (spots_show a)
+  latest-shows a = ap (shown_at file) (latest_is a) ∙ shows-last file (Err NoSuchCard) (spots_at a 0 fs) ∙ ap (last_of (none NoSuchCard)) (spots_show a)
 
   given-shows : (a n : ℕ) → given_shown a n file ≡ numbered_in n (versions_at a fs)
   given-shows a n = ap (shown_at file) (given_is a n) ∙ shows-numbered file n (spots_at a 0 fs) ∙ ap (numbered_in n) (spots_show a)
@@ -164,17 +164,17 @@ module _ (file : List ℕ) (fs : List Field) (e : read file ≡ catalogue fs) wh
         ∙ ap (λ (b : Bool). cond b (in_override (latest_in a (catalogue fs))) (else_main a fs (parsed main))) m
         ∙ ap (λ (r : Reading). cond t (in_override (latest_in a r)) (else_main a fs (parsed main))) (sym (was_read_lem file fs e))
 
-    in-override : (p : Place) → shown_in file main (in_override p) ≡ shown_at file p
-    in-override (At start len) = refl
-    in-override (Refused why) = refl
+    in-override : (p : Result Span Refusal) → shown_in file main (in_override p) ≡ shown_at file p
+    in-override (Ok p) = refl
+    in-override (Err why) = refl
 
     override-shows : is_among a (addresses_of fs) ≡ true → lookup_shown a file main ≡ latest_shown a file
     override-shows m = ap (shown_in file main) (looked-if true m) ∙ in-override (latest_in a (parsed file))
 
     -- The place is one, since a card that is listed has a version.
-    hit-if : (p : Place) (v : List ℕ) → shown_at file p ≡ image v → looked_up a (parsed file) (parsed main) ≡ in_override p → FromOverride a file main
-    hit-if (At s k) v shows h = record { start = s; size = k; hit = h }
-    hit-if (Refused why) v shows h = let z : ◌≡◌ {A = ℕ} 0 1 = cc in absurd (omega arith)
+    hit-if : (p : Result Span Refusal) (v : List ℕ) → shown_at file p ≡ image v → looked_up a (parsed file) (parsed main) ≡ in_override p → FromOverride a file main
+    hit-if (Ok p) v shows h = record { start = p.start; size = p.len; hit = h }
+    hit-if (Err why) v shows h = let z : ◌≡◌ {A = ℕ} 0 1 = cc in absurd (omega arith)
 
     from-override : is_among a (addresses_of fs) ≡ true → FromOverride a file main
     from-override m =
@@ -183,15 +183,15 @@ module _ (file : List ℕ) (fs : List Field) (e : read file ≡ catalogue fs) wh
         (latest-shows a ∙ ap (last_of (none NoSuchCard)) f.are ∙ last_is (none NoSuchCard) f.first f.rest) (looked-if true m)
 
     -- The override is sound, so that the main file's own tests are left.
-    main-hit : (p : Place) → shown_in file main (in_main p) ≡ shown_at main p
-    main-hit (At start len) = refl
-    main-hit (Refused why) = refl
+    main-hit : (p : Result Span Refusal) → shown_in file main (in_main p) ≡ shown_at main p
+    main-hit (Ok p) = refl
+    main-hit (Err why) = refl
 
     main-if : (r : Reading) → shown_in file main (else_main a fs r) ≡ shown_at main (latest_in a r)
     unfolding else_main latest_in
     main-if (catalogue gs) =
-        ap₂ (λ (x y : Bool). shown_in file main (in_main (where_sound (x && has_room gs) (y || any_twice (addresses_of gs)) (last_spot (Refused NoSuchCard) (spots_at a 0 gs))))) (sound file fs e).room (sound file fs e).apart
-        ∙ main-hit (where_sound (has_room gs) (any_twice (addresses_of gs)) (last_spot (Refused NoSuchCard) (spots_at a 0 gs)))
+        ap₂ (λ (x y : Bool). shown_in file main (in_main (where_sound (x && has_room gs) (y || any_twice (addresses_of gs)) (last_spot (Err NoSuchCard) (spots_at a 0 gs))))) (sound file fs e).room (sound file fs e).apart
+        ∙ main-hit (where_sound (has_room gs) (any_twice (addresses_of gs)) (last_spot (Err NoSuchCard) (spots_at a 0 gs)))
     main-if (refused why) = refl
 
     main-shows : is_among a (addresses_of fs) ≡ false → lookup_shown a file main ≡ latest_shown a main

@@ -5,11 +5,11 @@ use mathlib.Core.Path.{◌≡◌, refl, sym, ap, ◌∙◌}
 use mathlib.Core.Bool.{Bool, true, false, cond, ◌&&◌, ◌||◌, not}
 use borrow.Author.Tests.{leb-true, leb-false, lt-ltb, le-ltb}
 use lib.Dec.{leb, ltb}
+use Rattle.std.specs.Prelude.{Result, Ok, Err}
+use Rattle.catalogue_rules.specs.declared.Span.{Span}
 use Rattle.refusal.specs.declared.Refusal.{Refusal}
 use Rattle.refusal.specs.declared.Refusal.TheVariants.{NoPlace, ListedTwice}
-use Rattle.catalogue_rules.specs.declared.Place.{Place}
-use Rattle.catalogue_rules.specs.declared.Place.TheVariants.{At, Refused}
-use Rattle.catalogue_rules.specs.Lookup.{where_sound}
+use Rattle.catalogue_rules.specs.Lookup.{where_sound, span}
 
 -- There is room, or there are more than 64.
 room-if : (b : Bool) (n : ℕ) → leb n 64 ≡ b → not b ≡ ltb 64 n
@@ -32,21 +32,21 @@ both-room n m t e =
     ∙ ap (λ (x : Bool). not (ltb 64 n || x)) (is_crowd m)
     ∙ ap not e
 
-module _ {p : Place} (room twice : Bool) where
-  pub way_none : {why : Refusal} → p ≡ Refused why → Refused why ≡ where_sound room twice p
+module _ {p : Result Span Refusal} (room twice : Bool) where
+  pub way_none : {why : Refusal} → p ≡ Err why → Err why ≡ where_sound room twice p
   way_none e = sym (ap (where_sound room twice) e)
 
-  module _ {start len : ℕ} (e : p ≡ At start len) where
-    ways : where_sound room twice p ≡ cond room (cond twice (Refused ListedTwice) (At start len)) (Refused NoPlace)
+  module _ {start len : ℕ} (e : p ≡ Ok (span start len)) where
+    ways : where_sound room twice p ≡ cond room (cond twice (Err ListedTwice) (Ok (span start len))) (Err NoPlace)
     ways = ap (where_sound room twice) e
 
-    pub way_crowded : room ≡ false → Refused NoPlace ≡ where_sound room twice p
-    way_crowded r = sym (ways ∙ ap (λ (b : Bool). cond b (cond twice (Refused ListedTwice) (At start len)) (Refused NoPlace)) r)
+    pub way_crowded : room ≡ false → Err NoPlace ≡ where_sound room twice p
+    way_crowded r = sym (ways ∙ ap (λ (b : Bool). cond b (cond twice (Err ListedTwice) (Ok (span start len))) (Err NoPlace)) r)
 
-    pub way_twice : room ≡ true → twice ≡ true → Refused ListedTwice ≡ where_sound room twice p
+    pub way_twice : room ≡ true → twice ≡ true → Err ListedTwice ≡ where_sound room twice p
     way_twice r t =
-        sym (ways ∙ ap (λ (b : Bool). cond b (cond twice (Refused ListedTwice) (At start len)) (Refused NoPlace)) r ∙ ap (λ (b : Bool). cond b (Refused ListedTwice) (At start len)) t)
+        sym (ways ∙ ap (λ (b : Bool). cond b (cond twice (Err ListedTwice) (Ok (span start len))) (Err NoPlace)) r ∙ ap (λ (b : Bool). cond b (Err ListedTwice) (Ok (span start len))) t)
 
-    pub way_found : room ≡ true → twice ≡ false → At start len ≡ where_sound room twice p
+    pub way_found : room ≡ true → twice ≡ false → Ok (span start len) ≡ where_sound room twice p
     way_found r t =
-        sym (ways ∙ ap (λ (b : Bool). cond b (cond twice (Refused ListedTwice) (At start len)) (Refused NoPlace)) r ∙ ap (λ (b : Bool). cond b (Refused ListedTwice) (At start len)) t)
+        sym (ways ∙ ap (λ (b : Bool). cond b (cond twice (Err ListedTwice) (Ok (span start len))) (Err NoPlace)) r ∙ ap (λ (b : Bool). cond b (Err ListedTwice) (Ok (span start len))) t)

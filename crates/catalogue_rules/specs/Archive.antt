@@ -1,8 +1,8 @@
 -- Today's archive is a row of bare 128-byte images: it is moved in as version 1 of each card, and written out in the same order.
 -- Assumes nothing.
-use Rattle.std.specs.Prelude.{ℕ, ◌≤◌, ◌≡◌, Bool, true, false, List, [], ◌∷◌, ◌++◌, length, get_or}
-use Rattle.image_rules.specs.declared.Checked.{Checked}
-use Rattle.image_rules.specs.declared.Checked.TheVariants.{Sound, Refused}
+use Rattle.std.specs.Prelude.{ℕ, ◌≤◌, ◌≡◌, Bool, true, false, List, [], ◌∷◌, ◌++◌, length, get_or, Result, Ok, Err}
+use Rattle.refusal.specs.declared.Refusal.{Refusal}
+use Rattle.image_rules.specs.declared.Node.{Node}
 use Rattle.image_rules.specs.Image.{check_of}
 use Rattle.catalogue_rules.specs.Field.{Field, field}
 use Rattle.catalogue_rules.specs.Turns.{address_of}
@@ -37,9 +37,9 @@ abbrev pub moved_out : List Field → List ℕ
 moved_out fs = row_of (images_of (cards_of fs))
 
 -- All sound, with addresses that differ.
-abbrev pub is_sound : Checked → Bool
-is_sound (Sound node0 node1 node2) = true
-is_sound (Refused why) = false
+abbrev pub is_sound : Result Node Refusal → Bool
+is_sound (Ok node) = true
+is_sound (Err why) = false
 
 unfoldable pub AllSound : List (List ℕ) → Type 0
 AllSound [] = Unit

@@ -2,12 +2,11 @@
 -- Nothing unknown is lost or read: a new version goes behind everything up to the next card, a new card before the count;
 -- the unknown fields of a card that leaves stay where they are.
 -- Assumes nothing.
-use Rattle.std.specs.Prelude.{ℕ, zero, suc, ◌+◌, ◌*◌, ◌/◌, ◌%◌, Bool, true, false, cond, ◌&&◌, ◌||◌, not, List, [], ◌∷◌, ◌++◌, length, take, drop, eqb, ltb, leb}
+use Rattle.std.specs.Prelude.{ℕ, zero, suc, ◌+◌, ◌*◌, ◌/◌, ◌%◌, Bool, true, false, cond, ◌&&◌, ◌||◌, not, List, [], ◌∷◌, ◌++◌, length, take, drop, eqb, ltb, leb, Result, Ok, Err}
+use Rattle.image_rules.specs.declared.Node.{Node}
 use Rattle.refusal.specs.declared.Refusal.{Refusal}
 use Rattle.refusal.specs.declared.Refusal.TheVariants.{LengthOutside, ArgumentOutside, MakerWrong, ChecksumWrong, SecondaryWrong, NoSuchCard, NoPlace, ListedTwice}
 use Rattle.refusal.specs.Number.{number_of}
-use Rattle.image_rules.specs.declared.Checked.{Checked}
-use Rattle.image_rules.specs.declared.Checked.TheVariants.{Sound, Refused}
 use Rattle.image_rules.specs.Image.{check_of}
 use Rattle.catalogue_rules.specs.Field.{Field, field}
 use Rattle.catalogue_rules.specs.Turns.{address_of}
@@ -48,9 +47,9 @@ latest_number (v ∷ []) = v.number
 latest_number (v ∷ w ∷ vs) = latest_number (w ∷ vs)
 
 -- 8 to 10 for an unsound image.
-abbrev pub if_sound : Checked → Change → Change
-if_sound (Sound node0 node1 node2) change = change
-if_sound (Refused why) change = no why
+abbrev pub if_sound : Result Node Refusal → Change → Change
+if_sound (Ok node) change = change
+if_sound (Err why) change = no why
 
 -- The address of an image's card, as a number.
 abbrev pub whose : List ℕ → ℕ
@@ -135,9 +134,9 @@ unfoldable pub images_in : List ℕ → List (List ℕ)
 images_in row = images_within (length row / 128) row
 
 -- One of the images answers this refusal.
-abbrev pub is_for : Refusal → Checked → Bool
-is_for why (Sound node0 node1 node2) = false
-is_for why (Refused other) = eqb (number_of other) (number_of why)
+abbrev pub is_for : Refusal → Result Node Refusal → Bool
+is_for why (Ok node) = false
+is_for why (Err other) = eqb (number_of other) (number_of why)
 
 unfoldable pub any_for : Refusal → List (List ℕ) → Bool
 any_for why [] = false

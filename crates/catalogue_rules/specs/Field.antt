@@ -1,8 +1,7 @@
 -- A file of tagged fields: one-byte tag, two-byte length with its low byte first, then the value.
 -- Assumes nothing.
-use Rattle.std.specs.Prelude.{ℕ, zero, suc, ◌+◌, ◌*◌, ◌/◌, ◌%◌, Bool, true, false, cond, List, [], ◌∷◌, ◌++◌, length, get_or, take, drop, leb}
+use Rattle.std.specs.Prelude.{ℕ, zero, suc, ◌+◌, ◌*◌, ◌/◌, ◌%◌, Bool, true, false, cond, List, [], ◌∷◌, ◌++◌, length, get_or, take, drop, leb, Option, Some, None}
 use Rattle.catalogue_rules.specs.declared.Found.{Found}
-use Rattle.catalogue_rules.specs.declared.Found.TheVariants.{Whole, Cut}
 
 pub record Field : Type 0 where
   pub tag : ℕ
@@ -55,10 +54,13 @@ left_within (suc more) bytes = cond (is_whole bytes) (left_within more (behind b
 unfoldable pub left_of : List ℕ → List ℕ
 left_of bytes = left_within (length bytes) bytes
 
--- What stands at a place of a file: a whole field, with the place and the length of its value, or none.
-abbrev pub found_if : Bool → List ℕ → ℕ → Found
-found_if true bytes at = Whole (get_or bytes 0 0) (at + 3) (number_at bytes 1)
-found_if false bytes at = Cut
+abbrev pub found : ℕ → ℕ → ℕ → Found
+found t s k = record { tag = t; start = s; len = k }
 
-abbrev pub found_at : List ℕ → ℕ → Found
+-- What stands at a place of a file: a whole field, with the place and the length of its value, or none.
+abbrev pub found_if : Bool → List ℕ → ℕ → Option Found
+found_if true bytes at = Some (found (get_or bytes 0 0) (at + 3) (number_at bytes 1))
+found_if false bytes at = None
+
+abbrev pub found_at : List ℕ → ℕ → Option Found
 found_at file at = found_if (is_whole (drop at file)) (drop at file) at

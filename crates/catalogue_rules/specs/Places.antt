@@ -1,13 +1,13 @@
 -- The places that the calls answer are those of the images: what they show is what the catalogue says.
 -- Theorems over the definitions alone.
 -- Assumes nothing.
-use Rattle.std.specs.Prelude.{ℕ, ◌≡◌, true, false, cond, List, [], ◌∷◌, eqb}
+use Rattle.std.specs.Prelude.{ℕ, ◌≡◌, true, false, cond, List, [], ◌∷◌, eqb, Ok}
 use Rattle.refusal.specs.declared.Refusal.TheVariants.{NoSuchCard}
 use Rattle.catalogue_rules.specs.Field.{Field}
 use Rattle.catalogue_rules.specs.Reading.{catalogue, parsed, read, addresses_of, is_among}
 use Rattle.catalogue_rules.specs.Cards.{Version, versions_at}
 use Rattle.catalogue_rules.specs.declared.Hit.TheVariants.{InOverride}
-use Rattle.catalogue_rules.specs.Lookup.{Shown, image, none, latest_in, given_in, looked_up, shown_at, shown_in}
+use Rattle.catalogue_rules.specs.Lookup.{Shown, image, none, latest_in, given_in, looked_up, shown_at, shown_in, span}
 
 -- The image of the last version; of the version with the number. 17 where there is none.
 unfoldable pub last_of : Shown → List Version → Shown
@@ -32,7 +32,7 @@ lookup_shown a own main = shown_in own main (looked_up a (parsed own) (parsed ma
 pub record FromOverride (a : ℕ) (own main : List ℕ) : Type 0 where
   pub start : ℕ
   pub size : ℕ
-  pub hit : looked_up a (parsed own) (parsed main) ≡ InOverride start size
+  pub hit : looked_up a (parsed own) (parsed main) ≡ Ok (InOverride (span start size))
 
 -- Of a sound file the place is that of the image of the card's last version, or of its version with the number.
 -- The override's whenever it has the card, and then the main file does not matter; else the main one's.

@@ -1,14 +1,13 @@
 -- A catalogue's file: how it is read, and how it is written.
 -- A catalogue is the list of its fields before the count, unknown ones in their places.
 -- Assumes nothing.
-use Rattle.std.specs.Prelude.{ℕ, ◌+◌, ◌/◌, ◌%◌, Bool, true, false, cond, ◌&&◌, ◌||◌, List, [], ◌∷◌, ◌++◌, length, eqb, leb}
+use Rattle.std.specs.Prelude.{ℕ, ◌+◌, ◌/◌, ◌%◌, Bool, true, false, cond, ◌&&◌, ◌||◌, List, [], ◌∷◌, ◌++◌, length, eqb, leb, Result, Ok, Err}
+use Rattle.catalogue_rules.specs.declared.Counts.{Counts}
 use Rattle.refusal.specs.declared.Refusal.{Refusal}
 use Rattle.refusal.specs.declared.Refusal.TheVariants.{FieldDamaged, FileEndsEarly, NoPlace, ListedTwice}
 use Rattle.catalogue_rules.specs.Field.{Field, field, number_at, bytes_of, fields_of, left_of}
 use Rattle.catalogue_rules.specs.declared.Turn.{Turn}
 use Rattle.catalogue_rules.specs.declared.Turn.TheVariants.{Begun}
-use Rattle.catalogue_rules.specs.declared.Judged.{Judged}
-use Rattle.catalogue_rules.specs.declared.Judged.TheVariants.{Sound, Refused}
 use Rattle.catalogue_rules.specs.Turns.{address_of, after, may_end, is_damaged}
 
 -- Tag 4, the count of the fields before it (2 bytes), last.
@@ -77,7 +76,10 @@ roomy (refused why) = refused why
 unfoldable pub read : List ℕ → Reading
 read file = roomy (parsed file)
 
+abbrev pub counts : ℕ → ℕ → Counts
+counts c n = record { cards = c; fields = n }
+
 -- What the check of a file answers: how many cards and fields, or the refusal.
-abbrev pub judged : Reading → Judged
-judged (catalogue fs) = Sound (length (addresses_of fs)) (length fs)
-judged (refused why) = Refused why
+abbrev pub judged : Reading → Result Counts Refusal
+judged (catalogue fs) = Ok (counts (length (addresses_of fs)) (length fs))
+judged (refused why) = Err why

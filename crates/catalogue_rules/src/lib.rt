@@ -1,14 +1,12 @@
 #![tactic(auto)]
 // The catalogue: tagged fields, a file's meaning and its check, the round trips, looking cards up, archives, the changes, and what a change writes.
-use refusal::Refusal;
 
-// What stands at a place.
+// A whole field of a file: its value has `len` bytes from `start` on.
 #[derive(Clone, Copy)]
-pub enum Found {
-    // A whole field: its value has `len` bytes from `start` on.
-    Whole { tag: u8, start: usize, len: usize },
-    // No whole field: the bytes end first.
-    Cut,
+pub struct Found {
+    pub tag: u8,
+    pub start: usize,
+    pub len: usize,
 }
 
 // What may come next in a file.
@@ -26,45 +24,23 @@ pub enum Turn {
     Damaged,
 }
 
-// What the check of a file answers.
+// How many cards a file has, and how many fields before the count.
 #[derive(Clone, Copy)]
-pub enum Judged {
-    // How many cards it has, and how many fields before the count.
-    Sound { cards: usize, fields: usize },
-    // Number 15, 16, 18 or 19.
-    Refused(Refusal),
+pub struct Counts {
+    pub cards: usize,
+    pub fields: usize,
 }
 
-// Where an image stands in a file.
+// Where an image stands in a file: its first byte, and how many there are.
 #[derive(Clone, Copy)]
-pub enum Place {
-    // Its first byte, and how many there are.
-    At { start: usize, len: usize },
-    // Number 15 to 19.
-    Refused(Refusal),
+pub struct Span {
+    pub start: usize,
+    pub len: usize,
 }
 
 // Where an image stands in one of two files.
 #[derive(Clone, Copy)]
 pub enum Hit {
-    InOverride { start: usize, len: usize },
-    InMain { start: usize, len: usize },
-    // Number 15 to 19.
-    Nowhere(Refusal),
-}
-
-// Where a card's fields begin.
-#[derive(Clone, Copy)]
-pub enum Seek {
-    // Behind its address.
-    Behind(usize),
-    Missing,
-}
-
-#[derive(Clone, Copy)]
-pub enum Written {
-    // How many bytes of the area are the new file.
-    Bytes(usize),
-    // Number 2, 8 to 10, 12, or 15 to 19.
-    Refused(Refusal),
+    InOverride(Span),
+    InMain(Span),
 }

@@ -1,5 +1,6 @@
 -- Send on an opened card: the ticket, and each refusal. Assumes nothing.
-use Rattle.std.specs.Prelude.{◌≡◌, [], ◌∷◌, true, false, ℕ, length, replicate}
+use Rattle.std.specs.Prelude.{◌≡◌, [], ◌∷◌, true, false, ℕ, length, replicate, Result, Ok, Err}
+use Rattle.refusal.specs.declared.Refusal.{Refusal}
 use Rattle.refusal.specs.declared.Refusal.TheVariants.{StateUnsound, LengthOutside, SixteenUnreported, NoRoom, CardUnfit, NeverOpened}
 use Rattle.store.specs.Store as store
 use Rattle.transmit_rules.specs.Queue as queue
@@ -8,14 +9,12 @@ use Rattle.card_rules.specs.Update.{with_tx}
 use Rattle.driver_rules.specs.declared.Driver.{Driver}
 use Rattle.driver_rules.specs.Driver.{never_opened}
 use Rattle.driver_rules.specs.Talk.{Ran, run}
-use Rattle.driver_rules.specs.declared.SendAnswer.{SendAnswer}
-use Rattle.driver_rules.specs.declared.SendAnswer.TheVariants.{Ticket, Refused}
 use Rattle.driver_rules.specs.Send.{Sending, send_talk}
 use Rattle.driver_rules.specs.Calls.{send_call}
 use Rattle.driver_examples.specs.Ready.{on, ready, opened}
 
 -- a run answers x with n accesses
-abbrev pub Answers : SendAnswer → ℕ → Ran Sending → Type 0
+abbrev pub Answers : Result ℕ Refusal → ℕ → Ran Sending → Type 0
 Answers x n R = (R.answer.answer ≡ x) × (length R.made ≡ n)
 
 -- n zero bytes
@@ -31,16 +30,16 @@ waiting = with_tx (record { queue = record { failed = false; packets = packet �
 
 pub record SendExamples : Type 0 where
   -- 14 bytes: two reads, the preamble and 8 words
-  pub first_ticket : Answers (Ticket 0) 12 (send 14 opened ready)
+  pub first_ticket : Answers (Ok 0) 12 (send 14 opened ready)
   -- the ticket is the count of earlier packets
-  pub second_ticket : (send 14 (send 14 opened ready).answer.driver ready).answer.answer ≡ Ticket 1
-  pub unopened : Answers (Refused NeverOpened) 0 (send 14 never_opened ready)
-  pub small : Answers (Refused LengthOutside) 0 (send 13 opened ready)
-  pub large : Answers (Refused LengthOutside) 0 (send 1515 opened ready)
-  pub many : Answers (Refused SixteenUnreported) 0 (send 14 (record { opened = true; sent = 20; unreported = 16; error = false }) ready)
+  pub second_ticket : (send 14 (send 14 opened ready).answer.driver ready).answer.answer ≡ Ok 1
+  pub unopened : Answers (Err NeverOpened) 0 (send 14 never_opened ready)
+  pub small : Answers (Err LengthOutside) 0 (send 13 opened ready)
+  pub large : Answers (Err LengthOutside) 0 (send 1515 opened ready)
+  pub many : Answers (Err SixteenUnreported) 0 (send 14 (record { opened = true; sent = 20; unreported = 16; error = false }) ready)
   -- window 0
-  pub unfit : Answers (Refused CardUnfit) 1 (send 14 opened on)
-  pub unsound : Answers (Refused StateUnsound) 0 (run (send_call false opened (replicate 14 0)) ready)
+  pub unfit : Answers (Err CardUnfit) 1 (send 14 opened on)
+  pub unsound : Answers (Err StateUnsound) 0 (run (send_call false opened (replicate 14 0)) ready)
   -- the two packets leave 32: 28 is taken and 29 refused 4
-  pub taken_28 : (send 28 opened waiting).answer.answer ≡ Ticket 0
-  pub refused_29 : Answers (Refused NoRoom) 2 (send 29 opened waiting)
+  pub taken_28 : (send 28 opened waiting).answer.answer ≡ Ok 0
+  pub refused_29 : Answers (Err NoRoom) 2 (send 29 opened waiting)

@@ -1,4 +1,5 @@
 -- Each event carries the good frames on, and so does every run. Assumes nothing.
+use Rattle.std.specs.Prelude.{Result, Ok, Err}
 use mathlib.Core.Path.{◌≡◌, refl, sym, ap, subst, subst⁻¹, ◌∙◌}
 use mathlib.Core.Bool.{Bool, true, false, cond, not, ◌&&◌}
 use mathlib.Core.List.{List, [], ◌∷◌, ◌++◌, append_assoc, append-nil}
@@ -7,6 +8,7 @@ use native.Mathlib.Omega.{arith}
 use borrow.Author.Tests.{eqb-true, eq-eqb}
 use lib.ListN.{length}
 use lib.Dec.{eqb, ltb}
+use Rattle.refusal.specs.declared.Refusal.{Refusal}
 use Rattle.refusal.specs.declared.Refusal.TheVariants.{NeverOpened, AreaShort}
 use Rattle.refusal.specs.Number.{number_of}
 use Rattle.bits.proofs.Tests.{both, never, of_cond}
@@ -26,8 +28,8 @@ use Rattle.card_rules.proofs.Sides.{rx_of_lem}
 use Rattle.card_rules.specs.Event as card
 use Rattle.card_rules.specs.Calls.{on_wire, off_wire}
 use Rattle.driver_rules.specs.Talk.{Talk, done}
-use Rattle.driver_rules.specs.declared.Answer.{Answer}
-use Rattle.driver_rules.specs.declared.Answer.TheVariants as answer
+use Rattle.driver_rules.specs.declared.Item.{Item}
+use Rattle.driver_rules.specs.declared.Item.TheVariants as answer
 use Rattle.driver_rules.specs.Areas.{in_look, in_frame}
 use Rattle.driver_rules.specs.Items.{Serving, plain}
 use Rattle.driver_rules.specs.Paper.{Paper, service_paper}
@@ -47,20 +49,20 @@ use Rattle.frames_carried.proofs.Service.{Sane, Tells, as_frame, as_other, Carri
 abbrev given : Serving → ℕ → Areas → List (List ℕ)
 given x used areas = reads (service_paper x.answer used) x.bytes (record { look = in_look x.bytes areas.look; frame = in_frame x.bytes areas.frame })
 
-not-read : (y : Answer) (used : ℕ) (bytes : List ℕ) (s : Areas) → is_frame y ≡ false → reads (service_paper y used) bytes s ≡ offered bytes
+not-read : (y : Result Item Refusal) (used : ℕ) (bytes : List ℕ) (s : Areas) → is_frame y ≡ false → reads (service_paper y used) bytes s ≡ offered bytes
 unfolding is_frame reads
-not-read (answer.Reported t k) used bytes s e = refl
-not-read (answer.Status k) used bytes s e = refl
-not-read (answer.Frame n) used bytes s e = never (sym e)
-not-read answer.Idle used bytes s e = refl
-not-read (answer.Refused why) used bytes s e = of_cond (λ (p : Paper). reads p bytes s ≡ offered bytes) (eqb (number_of why) 6) refl refl
+not-read (Ok (answer.Reported t k)) used bytes s e = refl
+not-read (Ok (answer.Status k)) used bytes s e = refl
+not-read (Ok (answer.Frame n)) used bytes s e = never (sym e)
+not-read (Ok answer.Idle) used bytes s e = refl
+not-read (Err why) used bytes s e = of_cond (λ (p : Paper). reads p bytes s ≡ offered bytes) (eqb (number_of why) 6) refl refl
 
 -- it is what is host_reads up
 given_all : (x : Serving) (used : ℕ) (areas : Areas) → Tells x → given x used areas ≡ offered x.bytes
 unfolding reads
 given_all x used areas (as_frame e long) =
     let s : Areas = record { look = in_look x.bytes areas.look; frame = in_frame x.bytes areas.frame } in
-    ap (λ (y : Answer). reads (service_paper y used) x.bytes s) e ∙ ap (λ (l : List ℕ). l ∷ []) (handed_as x.bytes areas.look areas.frame) ∙ sym (offered-some x.bytes long)
+    ap (λ (y : Result Item Refusal). reads (service_paper y used) x.bytes s) e ∙ ap (λ (l : List ℕ). l ∷ []) (handed_as x.bytes areas.look areas.frame) ∙ sym (offered-some x.bytes long)
 given_all x used areas (as_other e) = not-read x.answer used x.bytes (record { look = in_look x.bytes areas.look; frame = in_frame x.bytes areas.frame }) e
 
 -- the adapter a with what was heard so far
@@ -84,8 +86,8 @@ still_outcome a t false = record { frames = refl; read = refl; failed = refl; wi
 pub serve_carries : (budget : ℕ) (areas : Areas) (b : Bench) → Sane b.adapter → Carries b.adapter (serves budget areas b).answer (serves budget areas b).adapter
 unfolding serves service_call
 serve_carries budget areas b s =
-    of_cond (λ (t : Talk Serving). Goes b.adapter t b.adapter) (not b.driver.opened) (quiet (done (plain (answer.Refused NeverOpened) b.driver)) (quiet-refused NeverOpened b.driver) b.adapter s)
-    (of_cond (λ (t : Talk Serving). Goes b.adapter t b.adapter) (not (full areas)) (quiet (done (plain (answer.Refused AreaShort) b.driver)) (quiet-refused AreaShort b.driver) b.adapter s)
+    of_cond (λ (t : Talk Serving). Goes b.adapter t b.adapter) (not b.driver.opened) (quiet (done (plain (Err NeverOpened) b.driver)) (quiet-refused NeverOpened b.driver) b.adapter s)
+    (of_cond (λ (t : Talk Serving). Goes b.adapter t b.adapter) (not (full areas)) (quiet (done (plain (Err AreaShort) b.driver)) (quiet-refused AreaShort b.driver) b.adapter s)
     (look_carries budget b.driver b.adapter s))
 
 module _ (heard : List ℕ) (a : Adapter) (s : Steady heard a) where

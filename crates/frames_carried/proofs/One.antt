@@ -1,4 +1,5 @@
 -- One good frame: stored as it comes, and handed up as it is stored. Assumes nothing.
+use Rattle.std.specs.Prelude.{Ok, Err}
 use mathlib.Core.Path.{◌≡◌, refl, ap, subst⁻¹, ◌∙◌}
 use mathlib.Core.Bool.{Bool, true, false, cond, not, ◌&&◌, ◌||◌}
 use mathlib.Core.List.{List, [], ◌∷◌, ◌++◌, append_assoc, append-nil, map}
@@ -30,7 +31,7 @@ use Rattle.driver_rules.specs.declared.Driver.{Driver}
 use Rattle.driver_rules.specs.Registers.{unfit, tx_complete, rx_complete, bad, length_in}
 use Rattle.driver_rules.specs.Talk.{Talk, done, Ran, run, after_reads, bytes_read}
 use Rattle.driver_rules.proofs.Runs.{reads_law}
-use Rattle.driver_rules.specs.declared.Answer.TheVariants as answer
+use Rattle.driver_rules.specs.declared.Item.TheVariants as answer
 use Rattle.driver_rules.specs.Areas.{in_look, in_frame}
 use Rattle.driver_rules.specs.Items.{Serving, plain, fetch_talk, words_in}
 use Rattle.driver_rules.specs.Service.{look_talk}
@@ -105,7 +106,7 @@ one-stored b first eight bs t =
 -- ---- handed up
 
 abbrev hand : Driver → ℕ → List ℕ → Serving
-hand d n bytes = record { answer = answer.Frame n; driver = d; bytes = bytes }
+hand d n bytes = record { answer = Ok (answer.Frame n); driver = d; bytes = bytes }
 
 module _ (left : ℕ) (d : Driver) (s s₃ : Adapter) (v rx n : ℕ) (e₁ : access (ReadWord 14) s ≡ step v s) (e₂ : access (ReadWord 8) s ≡ step rx s)
     (fit : unfit v ≡ false) (none : tx_complete v ≡ false) (some : rx_complete v ≡ true) (good : bad rx ≡ false) (count : length_in rx ≡ n)
@@ -130,8 +131,8 @@ laid_in_lem bytes s = way (leb (length bytes) 256)
 pub looks : (d : Driver) (areas : Bool) (budget : ℕ) → d.opened ≡ true → areas ≡ true → service_call true areas d budget ≡ look_talk budget d
 unfolding service_call
 looks d areas budget y g =
-    ap (λ (o : Bool). cond (not o) (done (plain (answer.Refused NeverOpened) d)) (cond (not areas) (done (plain (answer.Refused AreaShort) d)) (look_talk budget d))) y
-    ∙ ap (λ (o : Bool). cond (not o) (done (plain (answer.Refused AreaShort) d)) (look_talk budget d)) g
+    ap (λ (o : Bool). cond (not o) (done (plain (Err NeverOpened) d)) (cond (not areas) (done (plain (Err AreaShort) d)) (look_talk budget d))) y
+    ∙ ap (λ (o : Bool). cond (not o) (done (plain (Err AreaShort) d)) (look_talk budget d)) g
 
 module _ (b : Bench) (sound : sound_bench b ≡ true) (bytes : List ℕ) (behind : List Frame) (s : Areas) where
   abbrev a : Adapter

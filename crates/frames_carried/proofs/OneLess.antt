@@ -1,4 +1,5 @@
 -- One service with areas and budget enough takes one of what waits: a status, or else, once the bad frames before it are dropped, a good frame. Assumes nothing.
+use Rattle.std.specs.Prelude.{Ok, Err}
 use mathlib.Core.Path.{◌≡◌, refl, sym, ap, subst⁻¹, ◌∙◌}
 use mathlib.Core.Bool.{Bool, true, false, cond, not, ◌&&◌, ◌||◌}
 use mathlib.Core.List.{List, [], ◌∷◌}
@@ -31,7 +32,7 @@ use Rattle.driver_rules.specs.Registers.{rx_discard, unfit, tx_complete, rx_comp
 use Rattle.driver_rules.specs.Talk as talk
 use Rattle.driver_rules.specs.Talk.{Talk, done, order, Ran, run, after_reads}
 use Rattle.driver_rules.proofs.Runs.{reads_law}
-use Rattle.driver_rules.specs.declared.Answer.TheVariants as answer
+use Rattle.driver_rules.specs.declared.Item.TheVariants as answer
 use Rattle.driver_rules.specs.Items.{Serving, plain, is_error, report_talk, idle_talk, fetch_talk, words_in}
 use Rattle.driver_rules.specs.Service.{look_talk, receive_talk, drop_talk}
 use Rattle.runs.proofs.Status.{shown, seen-failed, seen-completed, seen_received}
@@ -227,7 +228,7 @@ fetch_less left d a f fs h o y l s more =
     subst⁻¹ (λ (t : Step). Less a t.adapter) (after_all a f fs outset o.over k) (drop-less a (after_reads w a) f fs h o.shape (beside_reads w a) one) in
     of_test (λ (t : Talk Serving). Less a (run t a).adapter) (ltb left (w + 1)) (λ t. absurd (omega (arith, ltb-true left (w + 1) t)))
     (λ _. subst⁻¹ (λ (R : Ran Serving). Less a R.adapter)
-    (reads_law w (λ bytes. order rx_discard 0 (done (record { answer = answer.Frame (length f.bytes); driver = d; bytes = take (length f.bytes) bytes }))) a) last)
+    (reads_law w (λ bytes. order rx_discard 0 (done (record { answer = Ok (answer.Frame (length f.bytes)); driver = d; bytes = take (length f.bytes) bytes }))) a) last)
 
 fit-drop : (a : Adapter) (f : Frame) (fs : List Frame) → Fit a → Ended a f fs → Fit (dropped a f fs)
 fit-drop a f fs h o =
@@ -260,7 +261,7 @@ mutual
   look-less zero d a h k = absurd (omega arith)
   look-less (suc left) d a h k =
       let turn : ℕ → Talk Serving =
-      λ status. cond (unfit status) (done (plain (answer.Refused CardUnfit) d)) (cond (tx_complete status) (report_talk left d) (cond (rx_complete status) (receive_talk left d) (idle_talk left d))) in
+      λ status. cond (unfit status) (done (plain (Err CardUnfit) d)) (cond (tx_complete status) (report_talk left d) (cond (rx_complete status) (receive_talk left d) (idle_talk left d))) in
       let P : Talk Serving → Type 0 = λ t. Less a (run t a).adapter in
       subst⁻¹ (λ (t : Step). Less a (run (turn t.value) t.adapter).adapter) (read-status a h.sane.sound h.active)
       (of_test P (unfit (status_word a)) (λ u. never (sym (sees_fit a h) ∙ u))

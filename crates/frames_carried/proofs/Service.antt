@@ -1,4 +1,5 @@
 -- A service hands up the oldest good frame or nothing, and drops no other good frame: by the ways through look, receive, drop and fetch. Assumes nothing.
+use Rattle.std.specs.Prelude.{Ok, Err}
 use mathlib.Core.Path.{◌≡◌, refl, sym, ap, subst, subst⁻¹, ◌∙◌}
 use mathlib.Core.Bool.{Bool, true, false, cond}
 use mathlib.Core.List.{List, [], ◌∷◌, ◌++◌}
@@ -29,8 +30,7 @@ use Rattle.driver_rules.specs.declared.Driver.{Driver}
 use Rattle.driver_rules.specs.Registers.{rx_discard, unfit, tx_complete, rx_complete, bad, length_in}
 use Rattle.driver_rules.specs.Talk.{Talk, done, order, Ran, run, after_reads, bytes_read}
 use Rattle.driver_rules.proofs.Runs.{reads_law}
-use Rattle.driver_rules.specs.declared.Answer.TheVariants.{Refused}
-use Rattle.driver_rules.specs.declared.Answer.TheVariants as answer
+use Rattle.driver_rules.specs.declared.Item.TheVariants as answer
 use Rattle.driver_rules.specs.Items.{Serving, plain, short, report_talk, idle_talk, fetch_talk, words_in}
 use Rattle.driver_rules.specs.Service.{look_talk, receive_talk, drop_talk}
 use Rattle.runs.proofs.Kept.{access-sound}
@@ -52,7 +52,7 @@ pub record Sane (a : Adapter) : Type 0 where
 
 -- an answer of n bytes hands up n bytes, and no other answer is a frame
 pub data Tells (x : Serving) : Type 0 where
-  as_frame : x.answer ≡ answer.Frame (length x.bytes) → 60 ≤ length x.bytes → Tells x
+  as_frame : x.answer ≡ Ok (answer.Frame (length x.bytes)) → 60 ≤ length x.bytes → Tells x
   as_other : is_frame x.answer ≡ false → Tells x
 
 -- from the adapter a, with the answer x, to b
@@ -171,7 +171,7 @@ module _ (left : ℕ) (d : Driver) (a : Adapter) (f : Frame) (fs : List Frame) (
   w = words_in (length f.bytes)
 
   abbrev hands : List ℕ → Talk Serving
-  hands bytes = order rx_discard 0 (done (record { answer = answer.Frame (length f.bytes); driver = d; bytes = take (length f.bytes) bytes }))
+  hands bytes = order rx_discard 0 (done (record { answer = Ok (answer.Frame (length f.bytes)); driver = d; bytes = take (length f.bytes) bytes }))
 
   fetch_carries : is_whole f.state ≡ true → 60 ≤ length f.bytes → length f.bytes ≤ 1514 → Goes a (fetch_talk left d (length f.bytes)) a
   unfolding fetch_talk run
@@ -180,9 +180,9 @@ module _ (left : ℕ) (d : Driver) (a : Adapter) (f : Frame) (fs : List Frame) (
       let o = (holds-first f fs (ap holdable (sym h.shape) ∙ h.sane.held)).0.bytes in
       let r = all_read a f fs outset h.over o in
       let g : if_good f.state f.bytes ≡ offered (take n (bytes_read w a)) = one-good f.state f.bytes y l s ∙ sym (offered-some f.bytes l) ∙ sym (ap offered r.0) in
-      let x : Serving = record { answer = answer.Frame n; driver = d; bytes = take n (bytes_read w a) } in
+      let x : Serving = record { answer = Ok (answer.Frame n); driver = d; bytes = take n (bytes_read w a) } in
       let m : length (take n (bytes_read w a)) ≡ n = ap length r.0 in
-      let told : Tells x = as_frame (ap answer.Frame (sym m)) (rw m l) in
+      let told : Tells x = as_frame (ap (λ (k : ℕ). Ok (answer.Frame k)) (sym m)) (rw m l) in
       let last : Carries a x (access (WriteWord 14 16384) (after_reads w a)).adapter =
       subst⁻¹ (λ (t : Step). Carries a x t.adapter) (after_all a f fs outset h.over o)
       (drops a (after_reads w a) f fs x h.sane h.shape h.over r.1.failed r.1.wire r.1.split g told) in
@@ -217,16 +217,16 @@ mutual
   look_carries zero d a s = quiet (done (short d)) (quiet-refused BudgetShort d) a s
   look_carries (suc left) d a s =
       let rest : ℕ → Talk Serving =
-      λ status. cond (unfit status) (done (plain (Refused CardUnfit) d)) (cond (tx_complete status) (report_talk left d) (cond (rx_complete status) (receive_talk left d) (idle_talk left d))) in
+      λ status. cond (unfit status) (done (plain (Err CardUnfit) d)) (cond (tx_complete status) (report_talk left d) (cond (rx_complete status) (receive_talk left d) (idle_talk left d))) in
       by_test a.id.active
       (λ y.
       subst⁻¹ (λ (t : Step). Goes a (rest t.value) t.adapter) (read-status a s.sound y)
-      (of_test (λ (t : Talk Serving). Goes a t a) (unfit (status_word a)) (λ _. quiet (done (plain (Refused CardUnfit) d)) (quiet-refused CardUnfit d) a s)
+      (of_test (λ (t : Talk Serving). Goes a t a) (unfit (status_word a)) (λ _. quiet (done (plain (Err CardUnfit) d)) (quiet-refused CardUnfit d) a s)
       (λ fit. of_test (λ (t : Talk Serving). Goes a t a) (tx_complete (status_word a)) (λ _. quiet (report_talk left d) (quiet-report left d) a s)
       (λ _. of_test (λ (t : Talk Serving). Goes a t a) (rx_complete (status_word a))
       (λ some. receive_carries left d a s y (fit-window a.select (flags a) fit) (both (has 16 a.select.zero) (complete a.rx.frames) (sym (status_received a.select (flags a)) ∙ some)).1)
       (λ _. quiet (idle_talk left d) (quiet-idle left d) a s)))))
-      (λ n. subst⁻¹ (λ (t : Step). Goes a (rest t.value) t.adapter) (asleep (ReadWord 14) a n) (quiet (done (plain (Refused CardUnfit) d)) (quiet-refused CardUnfit d) a s))
+      (λ n. subst⁻¹ (λ (t : Step). Goes a (rest t.value) t.adapter) (asleep (ReadWord 14) a n) (quiet (done (plain (Err CardUnfit) d)) (quiet-refused CardUnfit d) a s))
 
   receive_carries : (n : ℕ) (d : Driver) (a : Adapter) → Sane a → a.id.active ≡ true → a.select.window ≡ 1 → complete a.rx.frames ≡ true → Goes a (receive_talk n d) a
   receive_carries zero d a s y w some = quiet (done (short d)) (quiet-refused BudgetShort d) a s

@@ -1,5 +1,6 @@
 -- Accesses that leave the stored frames, what was read of the oldest, a failure and the wire as they were: all of an open, of a send, of a report and of idle.
 -- Assumes nothing.
+use Rattle.std.specs.Prelude.{Result, Ok, Err}
 use mathlib.Core.Path.{◌≡◌, refl, ◌∙◌, ap, subst⁻¹}
 use mathlib.Core.Bool.{Bool, true, false, cond, not, ◌&&◌, ◌||◌}
 use mathlib.Core.List.{List, [], ◌∷◌}
@@ -25,8 +26,8 @@ use Rattle.driver_rules.proofs.Runs.{asleep_run}
 use Rattle.driver_rules.specs.Registers.{unfit}
 use Rattle.driver_rules.specs.Talk.{Talk, done, ask, run, write_words}
 use Rattle.driver_rules.specs.Driver.{with_error}
-use Rattle.driver_rules.specs.declared.Answer.{Answer}
-use Rattle.driver_rules.specs.declared.Answer.TheVariants as answer
+use Rattle.driver_rules.specs.declared.Item.{Item}
+use Rattle.driver_rules.specs.declared.Item.TheVariants as answer
 use Rattle.driver_rules.specs.Items.{Serving, plain, is_error, seen, reports, report_talk, idle_talk}
 use Rattle.driver_rules.specs.Open.{open_talk}
 use Rattle.driver_rules.specs.Packet.{outside, packet_words}
@@ -109,19 +110,19 @@ still_run P (ask x k) (asks f q) a =
 
 -- ---- a report, idle and a refusal hand up nothing
 
-unfoldable pub is_frame : Answer → Bool
-is_frame (answer.Reported t s) = false
-is_frame (answer.Status s) = false
-is_frame (answer.Frame n) = true
-is_frame answer.Idle = false
-is_frame (answer.Refused why) = false
+unfoldable pub is_frame : Result Item Refusal → Bool
+is_frame (Ok (answer.Reported t s)) = false
+is_frame (Ok (answer.Status s)) = false
+is_frame (Ok (answer.Frame n)) = true
+is_frame (Ok answer.Idle) = false
+is_frame (Err why) = false
 
 -- nothing is handed up, and the answer is no frame
 pub record Nothing (x : Serving) : Type 0 where
   pub none : x.bytes ≡ []
   pub other : is_frame x.answer ≡ false
 
-pub quiet-refused : (why : Refusal) (d : Driver) → Quiet Nothing (done (plain (answer.Refused why) d))
+pub quiet-refused : (why : Refusal) (d : Driver) → Quiet Nothing (done (plain (Err why) d))
 unfolding is_frame
 quiet-refused why d = ends (record { none = refl; other = refl })
 

@@ -55,29 +55,21 @@ fn decoded(rx: u16) -> i16
 pub fn is_bad(rx: u16) -> bool
     ensures { result ≡ bad rx }
 {
-    let count = decoded(rx);
-    bits::has(rx, 16384) | ((count < sizes::SHORTEST_FRAME) | (sizes::LONGEST_FRAME < count))
+    bits::has(rx, 16384) | !(sizes::SHORTEST_FRAME..=sizes::LONGEST_FRAME).contains(&decoded(rx))
 }
 
 // The unread bytes that RX Status tells, as a length: none below 0.
 pub fn length(rx: u16) -> usize
     ensures { result ≡ length_in rx }
 {
-    let count = decoded(rx);
-    if count < 0 {
-        return 0;
-    }
-    count as usize
+    decoded(rx).max(0) as usize
 }
 
 // Byte i of a packet, 0 past its end.
 pub fn byte_of(packet: &[u8], i: usize) -> u16
     ensures { (result ≡ get_or packet.now i 0) × (result < 256) }
 {
-    if i < packet.len() {
-        return bits::wide(packet[i]);
-    }
-    0
+    u16::from(packet.get(i).copied().unwrap_or(0))
 }
 
 // A length rounded up to 4.
@@ -85,14 +77,14 @@ pub fn round_up(n: usize) -> usize
     requires { n ≤ 1514 }
     ensures { (result ≡ round4 n) × (result ≤ 1516) }
 {
-    (n + 3) / 4 * 4
+    n.next_multiple_of(4)
 }
 
 // Whether a packet's length is outside 14 to 1,514.
 pub fn is_outside(n: usize) -> bool
     ensures { result ≡ outside n }
 {
-    (n < sizes::SHORTEST_PACKET) | (sizes::LONGEST_PACKET < n)
+    !(sizes::SHORTEST_PACKET..=sizes::LONGEST_PACKET).contains(&n)
 }
 
 // Whether TX Free is below what a packet of n bytes needs.
@@ -100,5 +92,5 @@ pub fn lacks_room(free: u16, n: usize) -> bool
     requires { n ≤ 1514 }
     ensures { result ≡ lacks_room free n }
 {
-    (free as usize) < 4 + round_up(n)
+    usize::from(free) < 4 + round_up(n)
 }

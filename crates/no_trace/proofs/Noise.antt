@@ -1,4 +1,5 @@
 -- While a damaged frame comes: the run with the frame beside the run without, step by step. Assumes nothing.
+use Rattle.std.specs.Prelude.{Err}
 use mathlib.Core.Path.{◌≡◌, refl, ap, ap₂, ◌∙◌, subst⁻¹}
 use mathlib.Core.Bool.{Bool, true, false, cond, not, ◌&&◌, ◌||◌}
 use mathlib.Core.List.{List, [], ◌∷◌, ◌++◌}
@@ -17,7 +18,6 @@ use Rattle.card_rules.specs.Settle.{settle}
 use Rattle.card_rules.specs.Event as card
 use Rattle.driver_rules.specs.declared.Driver.{Driver}
 use Rattle.driver_rules.specs.Talk.{done, Ran, run}
-use Rattle.driver_rules.specs.declared.Answer.TheVariants.{Refused}
 use Rattle.driver_rules.specs.Items.{Serving, plain}
 use Rattle.driver_rules.specs.Service.{look_talk}
 use Rattle.driver_rules.specs.Calls.{service_call}
@@ -133,13 +133,13 @@ unfolding serves service_call run
 serve-both n r (deafly s d h) = go (full r)
   where
     go : (b : Bool) →
-        Both r (run (cond (not b) (done (plain (Refused AreaShort) (ready d))) (look_talk n (ready d))) (deaf s)) (run (cond (not b) (done (plain (Refused AreaShort) (ready d))) (look_talk n (ready d))) (calm s))
+        Both r (run (cond (not b) (done (plain (Err AreaShort) (ready d))) (look_talk n (ready d))) (deaf s)) (run (cond (not b) (done (plain (Err AreaShort) (ready d))) (look_talk n (ready d))) (calm s))
     go true = looks n r (deafly s d h)
     go false = record { beside = deafly s d h; says = refl; nothing = refl }
 serve-both n r (hearingly s d h e t bs o) = go (full r)
   where
     go : (b : Bool) →
-        Both r (run (cond (not b) (done (plain (Refused AreaShort) (ready d))) (look_talk n (ready d))) (hearing s e t bs o)) (run (cond (not b) (done (plain (Refused AreaShort) (ready d))) (look_talk n (ready d))) (calm s))
+        Both r (run (cond (not b) (done (plain (Err AreaShort) (ready d))) (look_talk n (ready d))) (hearing s e t bs o)) (run (cond (not b) (done (plain (Err AreaShort) (ready d))) (look_talk n (ready d))) (calm s))
     go true = looks n r (hearingly s d h e t bs o)
     go false = record { beside = hearingly s d h e t bs o; says = refl; nothing = refl }
 

@@ -1,10 +1,12 @@
 -- What an idle answer tells: the card is active, no failure stands, and no status is there. Assumes nothing.
+use Rattle.std.specs.Prelude.{Result, Ok, Err}
 use mathlib.Core.Path.{◌≡◌, refl, ap, sym, ◌∙◌, subst⁻¹}
 use mathlib.Core.Bool.{Bool, true, false, not, ◌&&◌, ◌||◌}
 use mathlib.Core.List.{List, [], ◌∷◌}
 use Prim.Native.Nat.{ℕ, zero, suc, ◌+◌, ◌/◌, ◌%◌}
 use lib.Dec.{ltb, eqb}
 use Rattle.bits.proofs.Tests.{of_cond, of_test, by_test, never}
+use Rattle.refusal.specs.declared.Refusal.{Refusal}
 use Rattle.refusal.specs.Number.{number_of}
 use Rattle.refusal.specs.declared.Refusal.TheVariants.{CardUnfit, NeverOpened, AreaShort}
 use Rattle.transmit_rules.specs.Outcome.{some}
@@ -21,9 +23,8 @@ use Rattle.driver_rules.specs.declared.Driver.{Driver}
 use Rattle.driver_rules.specs.Driver.{with_error}
 use Rattle.driver_rules.specs.Registers.{unfit, tx_complete, rx_complete, bad, length_in}
 use Rattle.driver_rules.specs.Talk.{Talk, done, ask, run, read_words}
-use Rattle.driver_rules.specs.declared.Answer.{Answer}
-use Rattle.driver_rules.specs.declared.Answer.TheVariants as answer
-use Rattle.driver_rules.specs.declared.Answer.TheVariants.{Refused}
+use Rattle.driver_rules.specs.declared.Item.{Item}
+use Rattle.driver_rules.specs.declared.Item.TheVariants as answer
 use Rattle.driver_rules.specs.Items.{Serving, plain, short, is_error, seen, reports, report_talk, idle_talk, fetch_talk, words_in}
 use Rattle.driver_rules.specs.Service.{look_talk, receive_talk, drop_talk}
 use Rattle.driver_rules.specs.Calls.{service_call}
@@ -75,12 +76,12 @@ calm_acked a s c =
 
 -- ---- which talks can answer idle
 
-idles : Answer → Bool
-idles (answer.Reported t s) = false
-idles (answer.Status s) = false
-idles (answer.Frame n) = false
-idles answer.Idle = true
-idles (answer.Refused why) = false
+idles : Result Item Refusal → Bool
+idles (Ok (answer.Reported t s)) = false
+idles (Ok (answer.Status s)) = false
+idles (Ok (answer.Frame n)) = false
+idles (Ok answer.Idle) = true
+idles (Err why) = false
 
 reports_never : (status : ℕ) (d : Driver) → idles (reports status d).answer ≡ false
 unfolding reports idles
@@ -138,7 +139,7 @@ mutual
       let w : ℕ = (access (ReadWord 14) a).value in
       let b : Adapter = (access (ReadWord 14) a).adapter in
       let P : Talk Serving → Type 0 = λ (t : Talk Serving). Calms t b in
-      of_test P (unfit w) (λ _. ends_busy (plain (Refused CardUnfit) d) b refl)
+      of_test P (unfit w) (λ _. ends_busy (plain (Err CardUnfit) d) b refl)
       (λ fit. of_test P (tx_complete w) (λ _. busy_calms b (busy_report n d))
       (λ quiet. of_cond P (rx_complete w) (receive_calms n d b (fine-status a s))
       (idle_calms n d b (fine-status a s) (calm_read a (status-calm a s fit quiet)))))
@@ -157,17 +158,17 @@ mutual
 serve_calms : (n : ℕ) (areas : Bool) (d : Driver) (a : Adapter) → Set a → Calms (service_call true areas d n) a
 unfolding service_call idles
 serve_calms n areas d a s =
-    of_cond (λ (t : Talk Serving). Calms t a) (not d.opened) (ends_busy (plain (Refused NeverOpened) d) a refl)
-    (of_cond (λ (t : Talk Serving). Calms t a) (not areas) (ends_busy (plain (Refused AreaShort) d) a refl) (look_calms n d a s))
+    of_cond (λ (t : Talk Serving). Calms t a) (not d.opened) (ends_busy (plain (Err NeverOpened) d) a refl)
+    (of_cond (λ (t : Talk Serving). Calms t a) (not areas) (ends_busy (plain (Err AreaShort) d) a refl) (look_calms n d a s))
 
 -- the paper's idle is the answer's
-same-idle : (x : Answer) (n : ℕ) → is_idle (service_paper x n) ≡ true → idles x ≡ true
+same-idle : (x : Result Item Refusal) (n : ℕ) → is_idle (service_paper x n) ≡ true → idles x ≡ true
 unfolding idles
-same-idle (answer.Reported t s) n e = e
-same-idle (answer.Status s) n e = e
-same-idle (answer.Frame m) n e = e
-same-idle answer.Idle n e = e
-same-idle (answer.Refused why) n e = of_cond (λ (p : Paper). is_idle p ≡ true → false ≡ true) (eqb (number_of why) 6) (λ f. f) (λ f. f) e
+same-idle (Ok (answer.Reported t s)) n e = e
+same-idle (Ok (answer.Status s)) n e = e
+same-idle (Ok (answer.Frame m)) n e = e
+same-idle (Ok answer.Idle) n e = e
+same-idle (Err why) n e = of_cond (λ (p : Paper). is_idle p ≡ true → false ≡ true) (eqb (number_of why) 6) (λ f. f) (λ f. f) e
 
 -- A service call that answers idle leaves the card calm.
 pub served-calm : (n : ℕ) (r : Areas) (b : Bench) → Set b.adapter → answers_idle (said (Service n r) b) ≡ true → Calm (next (Service n r) b).adapter

@@ -1,4 +1,5 @@
 -- An open card at rest, and the same while a frame comes, by their shapes: all but the receive side is equal. Assumes nothing.
+use Rattle.std.specs.Prelude.{Ok}
 use mathlib.Core.Path.{◌≡◌, refl, ap, ◌∙◌}
 use mathlib.Core.Bool.{Bool, true, false, not, ◌&&◌, ◌||◌}
 use mathlib.Core.List.{List, [], ◌∷◌}
@@ -30,7 +31,7 @@ use Rattle.card_rules.proofs.Active.{woken}
 use Rattle.driver_rules.specs.declared.Driver.{Driver}
 use Rattle.driver_rules.specs.Registers.{unfit, tx_complete, rx_complete, bad}
 use Rattle.driver_rules.specs.Talk.{Ran, run, extended}
-use Rattle.driver_rules.specs.declared.Answer.TheVariants.{Idle}
+use Rattle.driver_rules.specs.declared.Item.TheVariants.{Idle}
 use Rattle.driver_rules.specs.Items.{Serving, plain, short, idle_talk}
 use Rattle.driver_rules.specs.Service.{look_talk}
 use Rattle.runs.proofs.Status.{shown, seen-failed, seen-completed, seen_received}
@@ -200,7 +201,7 @@ abbrev Short : Driver → Adapter → Ran Serving
 Short d a = record { answer = short d; made = ReadWord 14 ∷ []; adapter = a }
 
 abbrev pub Idles : Driver → Adapter → Ran Serving
-Idles d a = record { answer = plain Idle d; made = ReadWord 14 ∷ (WriteWord 14 26729 ∷ []); adapter = a }
+Idles d a = record { answer = plain (Ok Idle) d; made = ReadWord 14 ∷ (WriteWord 14 26729 ∷ []); adapter = a }
 
 pub look-short : (d : Driver) (a b : Adapter) → Quiet a b → run (look_talk 1 d) a ≡ Short d b
 unfolding run look_talk idle_talk

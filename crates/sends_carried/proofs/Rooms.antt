@@ -1,4 +1,5 @@
 -- Each send that fits is taken, and TX Free falls by its room. Assumes nothing.
+use Rattle.std.specs.Prelude.{Result, Ok, Err}
 use mathlib.Core.Path.{◌≡◌, refl, ap, ◌∙◌}
 use mathlib.Core.Bool.{Bool, true, false, cond}
 use mathlib.Core.List.{List, [], ◌∷◌}
@@ -7,6 +8,7 @@ use native.Mathlib.Omega.{arith}
 use borrow.Author.Tests.{lt-ltb, le-ltb}
 use lib.Dec.{ltb, lit≤}
 use lib.ListN.{length, get_or}
+use Rattle.refusal.specs.declared.Refusal.{Refusal}
 use Rattle.refusal.specs.declared.Refusal.TheVariants.{NoRoom}
 use Rattle.store.specs.Store.{round4}
 use Rattle.transmit_rules.specs.Queue as queue
@@ -19,8 +21,6 @@ use Rattle.card_rules.specs.Access.{access, effect}
 use Rattle.driver_rules.specs.declared.Driver.{Driver}
 use Rattle.driver_rules.specs.Talk.{run}
 use Rattle.driver_rules.specs.Open.{open_talk}
-use Rattle.driver_rules.specs.declared.SendAnswer.{SendAnswer}
-use Rattle.driver_rules.specs.declared.SendAnswer.TheVariants.{Ticket, Refused}
 use Rattle.driver_rules.specs.Packet.{outside}
 use Rattle.driver_rules.specs.Send.{refusing}
 use Rattle.driver_rules.specs.Calls.{open_call}
@@ -43,20 +43,20 @@ module _ (f u t : ℕ) (b : Bench) (A : At f u t b) (n : ℕ) (p : List ℕ) (P 
   inside : outside (length p) ≡ false
   inside = rw (P.size, le-ltb n 14 long, le-ltb 1514 n short)
 
-  answer_by : (c : Bool) → ltb f (4 + round4 n) ≡ c → answer_to p b ≡ cond c (Refused NoRoom) (Ticket t)
+  answer_by : (c : Bool) → ltb f (4 + round4 n) ≡ c → answer_to p b ≡ cond c (Err NoRoom) (Ok t)
   unfolding answer_to
   answer_by c e =
       rw (A.opened, inside, A.fits, A.unreported, le-ltb 15 u few, A.left, P.size, e, A.sent)
 
-  takes : 4 + round4 n ≤ f → answer_to p b ≡ Ticket t
+  takes : 4 + round4 n ≤ f → answer_to p b ≡ Ok t
   takes s = answer_by false (le-ltb f (4 + round4 n) s)
 
-  refuses : f < 4 + round4 n → answer_to p b ≡ Refused NoRoom
+  refuses : f < 4 + round4 n → answer_to p b ≡ Err NoRoom
   refuses s = answer_by true (lt-ltb f (4 + round4 n) s)
 
-  says : (x : SendAnswer) → answer_to p b ≡ x → said (Send p) b ≡ answered (send_paper x) ∷ []
+  says : (x : Result ℕ Refusal) → answer_to p b ≡ x → said (Send p) b ≡ answered (send_paper x) ∷ []
   unfolding said
-  says x e = ap (λ (y : SendAnswer). answered (send_paper y) ∷ []) ((answers p b).answer ∙ e)
+  says x e = ap (λ (y : Result ℕ Refusal). answered (send_paper y) ∷ []) ((answers p b).answer ∙ e)
 
   goes_on_lem : 4 + round4 n ≤ f → At (f - (4 + round4 n)) (u + 1) ((t + 1) % 65536) (next (Send p) b)
   goes_on_lem s =
@@ -92,10 +92,10 @@ module _ (b : Bench) (A : At 3072 0 0 b) where
         two = λ p q P Q. (at_two p q P Q).left;
         then_28 = λ p q r P Q R.
             let B = at_two p q P Q in
-            says 32 2 2 _ B 28 r R (lit≤ tt) (lit≤ tt) (lit≤ tt) (Ticket 2) (takes 32 2 2 _ B 28 r R (lit≤ tt) (lit≤ tt) (lit≤ tt) (lit≤ tt));
+            says 32 2 2 _ B 28 r R (lit≤ tt) (lit≤ tt) (lit≤ tt) (Ok 2) (takes 32 2 2 _ B 28 r R (lit≤ tt) (lit≤ tt) (lit≤ tt) (lit≤ tt));
         then_29 = λ p q r P Q R.
             let B = at_two p q P Q in
-            says 32 2 2 _ B 29 r R (lit≤ tt) (lit≤ tt) (lit≤ tt) (Refused NoRoom) (refuses 32 2 2 _ B 29 r R (lit≤ tt) (lit≤ tt) (lit≤ tt) (lit≤ tt));
+            says 32 2 2 _ B 29 r R (lit≤ tt) (lit≤ tt) (lit≤ tt) (Err NoRoom) (refuses 32 2 2 _ B 29 r R (lit≤ tt) (lit≤ tt) (lit≤ tt) (lit≤ tt));
       }
 
 pub rows : BenchRowsOfTxFree

@@ -1,4 +1,5 @@
 -- A send is taken exactly when none of its refusals holds; then its words make the newest packet. Assumes nothing.
+use Rattle.std.specs.Prelude.{Result, Ok, Err}
 use mathlib.Core.Path.{◌≡◌, refl, sym, ap, subst⁻¹, ◌∙◌}
 use mathlib.Core.Bool.{Bool, true, false, cond, not, ◌&&◌, ◌||◌}
 use mathlib.Core.List.{List, [], ◌∷◌, ◌++◌}
@@ -32,8 +33,6 @@ use Rattle.driver_rules.specs.Registers as registers
 use Rattle.driver_rules.specs.Talk.{Talk, done, read_word, Ran, run, after, after_writes, write_words}
 use Rattle.driver_rules.proofs.Runs.{writes_law}
 use Rattle.driver_rules.specs.Driver.{driver_sound, sending}
-use Rattle.driver_rules.specs.declared.SendAnswer.{SendAnswer}
-use Rattle.driver_rules.specs.declared.SendAnswer.TheVariants.{Ticket, Refused}
 use Rattle.driver_rules.specs.Packet.{outside, packet_words}
 use Rattle.driver_rules.specs.Send.{Sending, refuses, ticketed, send_talk, refusing}
 use Rattle.driver_rules.proofs.SendWays.{not-long}
@@ -142,21 +141,21 @@ module _ (a : Adapter) (d : Driver) (p : List ℕ) where
     whole : sound a ≡ true → b ≡ a
 
   -- The run ends with the answer x: a ticket, and then with the words written; or a refusal, and then as it began.
-  record End (x : SendAnswer) (y : Sending) (b : Adapter) : Type 0 where
+  record End (x : Result ℕ Refusal) (y : Sending) (b : Adapter) : Type 0 where
     answer : y.answer ≡ x
     filled : refusing x ≡ false → Wrote (packet_words p) a b × (y.driver ≡ sending d)
     kept : refusing x ≡ true → Kept b × (y.driver ≡ d)
 
-  abbrev Ends : SendAnswer → Ran Sending → Type 0
+  abbrev Ends : Result ℕ Refusal → Ran Sending → Type 0
   Ends x R = End x R.answer R.adapter
 
-  refused : (why : Refusal) (b : Adapter) → Kept b → Ends (Refused why) (run (done (refuses d why)) b)
+  refused : (why : Refusal) (b : Adapter) → Kept b → Ends (Err why) (run (done (refuses d why)) b)
   unfolding run
   refused why b k = record { answer = refl; filled = λ e. never (sym e); kept = λ _. (k, refl) }
 
   -- a refusal that holds, or not
-  guards : (c h : Bool) (why : Refusal) (x : SendAnswer) (y : Talk Sending) (b : Adapter) → c ≡ h → Kept b → (h ≡ false → Ends x (run y b))
-      → Ends (cond h (Refused why) x) (run (cond c (done (refuses d why)) y) b)
+  guards : (c h : Bool) (why : Refusal) (x : Result ℕ Refusal) (y : Talk Sending) (b : Adapter) → c ≡ h → Kept b → (h ≡ false → Ends x (run y b))
+      → Ends (cond h (Err why) x) (run (cond c (done (refuses d why)) y) b)
   guards true true why x y b e k f = refused why b k
   guards true false why x y b e k f = never (sym e)
   guards false true why x y b e k f = never e
@@ -165,8 +164,8 @@ module _ (a : Adapter) (d : Driver) (p : List ℕ) where
   abbrev needed : ℕ
   needed = 4 + round4 (length p)
 
-  abbrev ticket : SendAnswer
-  ticket = Ticket d.sent
+  abbrev ticket : Result ℕ Refusal
+  ticket = Ok d.sent
 
   abbrev words : Talk Sending
   words = write_words (packet_words p) (done (ticketed d))
@@ -183,7 +182,7 @@ module _ (a : Adapter) (d : Driver) (p : List ℕ) where
 
   -- TX Free
   ends-free : (b : Adapter) → b.id.active ≡ true → b.select.window ≡ 1 → Alike a b → (sound a ≡ true → b ≡ a)
-      → Ends (cond (ltb (tx_free a) needed) (Refused NoRoom) ticket) (run (read_word registers.tx_free on_free) b)
+      → Ends (cond (ltb (tx_free a) needed) (Err NoRoom) ticket) (run (read_word registers.tx_free on_free) b)
   unfolding run settle
   ends-free b y w l k =
       let same : tx_free b ≡ tx_free a = λ j. free (tx_size ((l.config j).second % 4)) (l.queue j) in
@@ -194,12 +193,12 @@ module _ (a : Adapter) (d : Driver) (p : List ℕ) where
       (λ _. ends-written (settle b) y w (record { queue = l.queue; config = l.config; id = l.id; select = l.select; failed = l.failed })))
 
   -- Status
-  ends-status : Ends (cond (not (fit a)) (Refused CardUnfit) (cond (ltb (tx_free a) needed) (Refused NoRoom) ticket))
+  ends-status : Ends (cond (not (fit a)) (Err CardUnfit) (cond (ltb (tx_free a) needed) (Err NoRoom) ticket))
       (run (read_word status_port (λ status. cond (unfit status) (done (refuses d CardUnfit)) (read_word registers.tx_free on_free))) a)
   unfolding run settle
   ends-status =
       let b : Adapter = (access (ReadWord 14) a).adapter in
-      let x : SendAnswer = cond (ltb (tx_free a) needed) (Refused NoRoom) ticket in
+      let x : Result ℕ Refusal = cond (ltb (tx_free a) needed) (Err NoRoom) ticket in
       guards (unfit (access (ReadWord 14) a).value) (not (fit a)) CardUnfit x (read_word registers.tx_free on_free) b (shows-fit a)
       (record { same = access-same (ReadWord 14) a (word_read 14 a); whole = status-kept a })
       (λ f.
@@ -238,7 +237,7 @@ answers p b =
 
 -- ---- a packet that is taken
 
-not-refused : (c : Bool) (why : Refusal) (x : SendAnswer) → refusing (cond c (Refused why) x) ≡ false → (c ≡ false) × (refusing x ≡ false)
+not-refused : (c : Bool) (why : Refusal) (x : Result ℕ Refusal) → refusing (cond c (Err why) x) ≡ false → (c ≡ false) × (refusing x ≡ false)
 not-refused true why x e = never (sym e)
 not-refused false why x e = (refl, e)
 

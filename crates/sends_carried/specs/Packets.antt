@@ -1,5 +1,6 @@
 -- Packets that the driver takes, that the card stores, and that leave it. Assumes nothing.
-use Rattle.std.specs.Prelude.{◌≡◌, Bool, true, false, cond, not, ◌&&◌, List, [], ◌∷◌, ◌++◌, ℕ, ◌+◌, ◌-◌, length, replicate, eqb, ltb}
+use Rattle.std.specs.Prelude.{◌≡◌, Bool, true, false, cond, not, ◌&&◌, List, [], ◌∷◌, ◌++◌, ℕ, ◌+◌, ◌-◌, length, replicate, eqb, ltb, Result, Ok, Err}
+use Rattle.refusal.specs.declared.Refusal.{Refusal}
 use Rattle.refusal.specs.declared.Refusal.TheVariants.{NeverOpened, LengthOutside, SixteenUnreported, CardUnfit, NoRoom}
 use Rattle.store.specs.Store.{Frame, round4}
 use Rattle.transmit_rules.specs.Leave as leave
@@ -7,8 +8,6 @@ use Rattle.transmit_rules.specs.Tx.{ready}
 use Rattle.card_rules.specs.Adapter.{Adapter}
 use Rattle.card_rules.specs.Room.{tx_free}
 use Rattle.card_rules.specs.Status.{failure, shows}
-use Rattle.driver_rules.specs.declared.SendAnswer.{SendAnswer}
-use Rattle.driver_rules.specs.declared.SendAnswer.TheVariants.{Ticket, Refused}
 use Rattle.driver_rules.specs.Packet.{outside}
 use Rattle.driver_rules.specs.Send.{refusing}
 use Rattle.runs.specs.Run.{Bench, Event, Start, Byte, End, Sent, Collided, Open, Send, Service, Said, refused, told, answered, served, sends, next}
@@ -45,14 +44,14 @@ abbrev pub fit : Adapter → Bool
 fit a = a.id.active && (eqb a.select.window 1 && not (shows 2 a.select.zero (failure a)))
 
 -- What a send answers: refused 13, 2, 3, 5, 4, first that holds wins; else the ticket.
-unfoldable pub answer_to : List ℕ → Bench → SendAnswer
+unfoldable pub answer_to : List ℕ → Bench → Result ℕ Refusal
 answer_to packet b =
-    cond (not b.driver.opened) (Refused NeverOpened)
-    (cond (outside (length packet)) (Refused LengthOutside)
-    (cond (ltb 15 b.driver.unreported) (Refused SixteenUnreported)
-    (cond (not (fit b.adapter)) (Refused CardUnfit)
-    (cond (ltb (tx_free b.adapter) (4 + round4 (length packet))) (Refused NoRoom)
-    (Ticket b.driver.sent)))))
+    cond (not b.driver.opened) (Err NeverOpened)
+    (cond (outside (length packet)) (Err LengthOutside)
+    (cond (ltb 15 b.driver.unreported) (Err SixteenUnreported)
+    (cond (not (fit b.adapter)) (Err CardUnfit)
+    (cond (ltb (tx_free b.adapter) (4 + round4 (length packet))) (Err NoRoom)
+    (Ok b.driver.sent)))))
 
 -- a send is answered by a ticket
 abbrev pub ticketed : List ℕ → Bench → Bool

@@ -10,11 +10,10 @@ use lib.ListN.{length, length-map, take, get_or}
 use lib.Seq.{take_all}
 use borrow.Author.Tests.{leb-true}
 use Rattle.bits.proofs.Tests.{both}
+use Rattle.std.specs.Prelude.{Result, ⊤}
+use Rattle.refusal.specs.declared.Refusal.{Refusal}
 use Rattle.port_rules.specs.declared.IdState.{IdState}
 use Rattle.port_rules.specs.Card.{id_write, id_bit, id_after_read}
-use Rattle.port_rules.specs.declared.Wrote.{Wrote}
-use Rattle.port_rules.specs.declared.Bit.{Bit}
-use Rattle.port_rules.specs.declared.Activation.{Activation}
 use Rattle.port_rules.specs.Port.{port_write, port_bit, port_read, run}
 use Rattle.port_rules.specs.Search.{activate}
 use Rattle.port_rules.specs.Calls.{Reply, refused, told, wrote_reply, bit_reply, activation_reply, padded, all_sound, allowed, naming, digit_of, judged, ended, activated, port_writes, port_reads, activates_card}
@@ -77,7 +76,7 @@ blank : (b : Bool) → padded [] ≡ cond b (padded []) (padded [])
 blank true = refl
 blank false = refl
 
-pub wrote-ends : (port byte : ℕ) (ys : List IdState) (i j : ℕ) (w : Seen) (t : Step) (r : Wrote) → Looked port ys i w → length ys ≤ i → t ≡ writing_of w byte → length ys ≤ j → wrote_reply r ≡ reply_of t [] →
+pub wrote-ends : (port byte : ℕ) (ys : List IdState) (i j : ℕ) (w : Seen) (t : Step) (r : Result ⊤ Refusal) → Looked port ys i w → length ys ≤ i → t ≡ writing_of w byte → length ys ≤ j → wrote_reply r ≡ reply_of t [] →
     wrote_over r (up_to (written_by t) j ys) ≡ port_writes (lent ys) port byte
 unfolding port_write
 wrote-ends port byte ys i j w t r g full e m a =
@@ -89,7 +88,7 @@ wrote-ends port byte ys i j w t r g full e m a =
     (write-length (digit_of port) byte ys)
     ∙ ap (λ (l : List IdState). judged (lent ys) (allowed (lent ys) port) (ended (lent ys) [] [] (port_write (digit_of port) byte l))) (sym (held-lent ys))
 
-pub heard-ends : (port : ℕ) (ys : List IdState) (i j : ℕ) (w : Seen) (t : Step) (r : Bit) → Looked port ys i w → length ys ≤ i → t ≡ reading_of w → length ys ≤ j → bit_reply r ≡ reply_of t (t.value ∷ []) →
+pub heard-ends : (port : ℕ) (ys : List IdState) (i j : ℕ) (w : Seen) (t : Step) (r : Result ℕ Refusal) → Looked port ys i w → length ys ≤ i → t ≡ reading_of w → length ys ≤ j → bit_reply r ≡ reply_of t (t.value ∷ []) →
     read_over r (up_to (heard_by t) j ys) ≡ port_reads (lent ys) port
 unfolding port_read
 heard-ends port ys i j w t r g full e m a =
@@ -135,7 +134,7 @@ commands false x tag base ys sound few e = go sound few
     go true false = refl
     go false b = refl
 
-pub activated-ends : (port tag base : ℕ) (ys : List IdState) (i j : ℕ) (w : Seen) (o : Order) (r : Activation) → Looked port ys i w → length ys ≤ i → o ≡ activating_of w tag base → length ys ≤ j → activation_reply r ≡ order_reply o →
+pub activated-ends : (port tag base : ℕ) (ys : List IdState) (i j : ℕ) (w : Seen) (o : Order) (r : Result ℕ Refusal) → Looked port ys i w → length ys ≤ i → o ≡ activating_of w tag base → length ys ≤ j → activation_reply r ≡ order_reply o →
     activated_over r (up_to (activated_in o) j ys) ≡ activates_card (lent ys) port tag base
 unfolding run
 activated-ends port tag base ys i j w o r g full e m a =

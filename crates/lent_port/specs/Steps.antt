@@ -1,6 +1,8 @@
 -- What each covered step promises.
 -- Assumes nothing.
-use Rattle.std.specs.Prelude.{ℕ, ◌+◌, ◌-◌, ◌*◌, ◌/◌, ◌%◌, ◌≤◌, min, ◌≡◌, Bool, true, cond, ◌&&◌, List, [], ◌∷◌, ◌++◌, leb, eqb, length, take, drop, set, replicate}
+use Rattle.std.specs.Prelude.{ℕ, ◌+◌, ◌-◌, ◌*◌, ◌/◌, ◌%◌, ◌≤◌, min, ◌≡◌, Bool, true, cond, ◌&&◌, List, [], ◌∷◌, ◌++◌, leb, eqb, length, take, drop, set, replicate, Result, Ok, Err, ⊤}
+use Rattle.refusal.specs.declared.Refusal.{Refusal}
+use Rattle.refusal.specs.declared.Refusal.TheVariants.{StateUnsound, ArgumentOutside}
 use Rattle.port_rules.specs.declared.IdState.{IdState}
 use Rattle.port_rules.specs.Card.{id_write, id_bit, id_after_read}
 use Rattle.port_rules.specs.Sound.{id_sound}
@@ -41,6 +43,10 @@ written_by t s = cond (t.sound && t.fit) (id_write s t.x t.value) s
 
 abbrev pub heard_by : Step → IdState → IdState
 heard_by t s = cond (t.sound && t.fit) (id_after_read s t.x t.value) s
+
+-- the tests: refusal 1 for an unsound state, then 12 for an argument outside
+abbrev pub tested : Bool → Bool → Result ⊤ Refusal
+tested sound fit = cond sound (cond fit (Ok tt) (Err ArgumentOutside)) (Err StateUnsound)
 
 abbrev pub reply_of : Step → List ℕ → Reply
 reply_of t values = cond t.sound (cond t.fit (told values) (refused 12)) (refused 1)

@@ -4,14 +4,15 @@
 ghost use Rattle.port_rules.specs.Lent.{TheSameAsByValue};
 ghost use Rattle.port_rules.specs.PortContracts as contract;
 
-use port_rules::{Activation, Bit, IdState, Listed, Wrote};
+use port_rules::{IdState, Listed};
+use refusal::Refusal;
 
 mod card; // card.rt: one card by itself, access by access
 mod look; // look.rt: a write, a read, an activation
 mod roll; // roll.rt: the search
 
 // A byte written to the port, which each card sees. A port is its I/O address, 100h to 1F0h.
-pub fn write(cards: &mut [IdState], port: u16, byte: u8) -> Wrote
+pub fn write(cards: &mut [IdState], port: u16, byte: u8) -> Result<(), Refusal>
     ensures { contract.LentWrite cards.old port byte result cards.new }
 {
     let mut seen = look::begin(port);
@@ -30,7 +31,7 @@ pub fn write(cards: &mut [IdState], port: u16, byte: u8) -> Wrote
 }
 
 // A bit read from the port, and the cards as the contention leaves them.
-pub fn read(cards: &mut [IdState], port: u16) -> Bit
+pub fn read(cards: &mut [IdState], port: u16) -> Result<u8, Refusal>
     ensures { contract.LentRead cards.old port result cards.new }
 {
     let mut seen = look::begin(port);
@@ -68,7 +69,7 @@ pub fn find(cards: &mut [IdState], port: u16) -> Listed
 }
 
 // Activation of the card with this tag, 1 to 7, at this base number; 31 means preconfigured.
-pub fn activate(cards: &mut [IdState], port: u16, tag: u8, base: u8) -> Activation
+pub fn activate(cards: &mut [IdState], port: u16, tag: u8, base: u8) -> Result<usize, Refusal>
     ensures { contract.LentActivate cards.old port tag base result cards.new }
 {
     let mut seen = look::begin(port);

@@ -1,11 +1,11 @@
 // A write, a read or an activation over the slice: a look at each card, the tests, and the step of one card.
 ghost use Rattle.std.specs.Prelude.{◌≡◌, ◌+◌, min, [], ◌∷◌};
 ghost use Rattle.port_rules.specs.Calls.{wrote_reply, bit_reply, activation_reply};
-ghost use Rattle.lent_port.specs.Steps.{unseen, seen_with, writing_of, reading_of, activating_of, written_by, heard_by, activated_in, reply_of, order_reply, port_fits};
+ghost use Rattle.lent_port.specs.Steps.{unseen, seen_with, writing_of, reading_of, activating_of, written_by, heard_by, activated_in, reply_of, order_reply, port_fits, tested as tested_of};
 
 use crate::card::call_up;
 use idport::{id_after_read, id_bit, id_sound, id_write};
-use port_rules::{Activation, Bit, IdState, Wrote};
+use port_rules::IdState;
 use refusal::Refusal;
 
 // What the cards looked at so far have told.
@@ -133,29 +133,30 @@ pub fn heard(step: Step, card: IdState) -> IdState
     card
 }
 
-pub fn write_answer(step: Step) -> Wrote
-    ensures { wrote_reply result ≡ reply_of step [] }
+// The refusal, where a test fails: 1 for an unsound state, then 12 for an argument outside.
+pub fn tested(sound: bool, fit: bool) -> Result<(), Refusal>
+    ensures { result ≡ tested_of sound fit }
 {
-    if !step.sound {
-        return Wrote::Refused(Refusal::StateUnsound);
+    if !sound {
+        return Err(Refusal::StateUnsound);
     }
-    if !step.fit {
-        return Wrote::Refused(Refusal::ArgumentOutside);
+    if !fit {
+        return Err(Refusal::ArgumentOutside);
     }
-    Wrote::Done
+    Ok(())
 }
 
-pub fn read_answer(step: Step) -> Bit
+pub fn write_answer(step: Step) -> Result<(), Refusal>
+    ensures { wrote_reply result ≡ reply_of step [] }
+{
+    tested(step.sound, step.fit)
+}
+
+pub fn read_answer(step: Step) -> Result<u8, Refusal>
     ensures { bit_reply result ≡ reply_of step (step.value ∷ []) }
 {
-    if !step.sound {
-        return Bit::Refused(Refusal::StateUnsound);
-    }
-    if !step.fit {
-        return Bit::Refused(Refusal::ArgumentOutside);
-    }
-    let bit = step.value;
-    Bit::Value(bit)
+    tested(step.sound, step.fit)?;
+    Ok(step.value)
 }
 
 // What an activation does to each card: the outcome of the tests, x of port 1x0h, and the two commands.
@@ -204,14 +205,9 @@ pub fn activated(order: Order, card: IdState) -> IdState
     card
 }
 
-pub fn activate_answer(order: Order) -> Activation
+pub fn activate_answer(order: Order) -> Result<usize, Refusal>
     ensures { activation_reply result ≡ order_reply order }
 {
-    if !order.sound {
-        return Activation::Refused(Refusal::StateUnsound);
-    }
-    if !order.fit {
-        return Activation::Refused(Refusal::ArgumentOutside);
-    }
-    Activation::Done { accesses: 259 }
+    tested(order.sound, order.fit)?;
+    Ok(259)
 }

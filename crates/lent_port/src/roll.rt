@@ -5,10 +5,9 @@ ghost use Rattle.lent_port.specs.Roll.{takes_part, Worded, least as least_of, st
 ghost use Rattle.lent_port.specs.Steps.{unrolled, rolled_with, Room, Finishes, finding_of, searched_in, Lists};
 
 use crate::card::{call_up, hear, round};
-use crate::look::{allowed, one_more};
+use crate::look::{allowed, one_more, tested};
 use idport::{id_sound, id_write};
-use port_rules::{Found, IdState, Listed};
-use refusal::Refusal;
+use port_rules::{Cards, IdState, Listed};
 
 // What 48 reads give where no card drives.
 const ALL_ONES: u64 = 0xFFFF_FFFF_FFFF;
@@ -237,26 +236,18 @@ pub fn searched(f: Finding, card: IdState) -> IdState
 pub fn found_answer(f: Finding) -> Listed
     ensures { Lists f result }
 {
-    if !f.sound {
-        return Listed {
-            answer: Found::Refused(Refusal::StateUnsound),
-            addresses: [0; 7],
-        };
-    }
-    if !f.fit {
-        return Listed {
-            answer: Found::Refused(Refusal::ArgumentOutside),
-            addresses: [0; 7],
-        };
-    }
-    let count = f.count;
-    let accesses = f.accesses;
     let addresses = f.addresses;
-    Listed {
-        answer: Found::Cards {
-            count: count,
-            accesses: accesses,
+    match tested(f.sound, f.fit) {
+        Ok(()) => Listed {
+            answer: Ok(Cards {
+                count: f.count,
+                accesses: f.accesses,
+            }),
+            addresses: addresses,
         },
-        addresses: addresses,
+        Err(why) => Listed {
+            answer: Err(why),
+            addresses: [0; 7],
+        },
     }
 }

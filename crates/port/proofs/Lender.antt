@@ -6,16 +6,13 @@ use mathlib.Core.Bool.{Bool, true, false, cond, ◌&&◌}
 use mathlib.Core.List.{List, [], ◌++◌}
 use native.Mathlib.Omega.{arith}
 use lib.ListN.{length, take-append-drop}
+use Rattle.std.specs.Prelude.{Result, ⊤}
+use Rattle.refusal.specs.declared.Refusal.{Refusal}
 use Rattle.port_rules.specs.declared.IdState.{IdState}
 use Rattle.port_rules.specs.declared.Bus.{Bus}
-use Rattle.port_rules.specs.declared.Wrote.{Wrote}
-use Rattle.port_rules.specs.declared.AfterWrite.{AfterWrite}
-use Rattle.port_rules.specs.declared.Bit.{Bit}
-use Rattle.port_rules.specs.declared.AfterRead.{AfterRead}
+use Rattle.port_rules.specs.declared.After.{After}
 use Rattle.port_rules.specs.declared.Listed.{Listed}
 use Rattle.port_rules.specs.declared.AfterSearch.{AfterSearch}
-use Rattle.port_rules.specs.declared.Activation.{Activation}
-use Rattle.port_rules.specs.declared.AfterActivation.{AfterActivation}
 use Rattle.port_rules.specs.Port.{held, rest}
 use Rattle.port_rules.specs.Calls.{padded, Outcome, all_sound, allowed, naming, digit_of, refusing, judged, wrote_of, read_of, found_of, activated_of, port_writes, port_reads, finds_cards, activates_card}
 use Rattle.port_rules.specs.Lent.{lent, wrote_over, read_over, found_over, activated_over}
@@ -44,11 +41,11 @@ fits b port few l = sym (allowed_same b port (omega arith))
 
 -- The cards left, zs, and the answer u, as the call joins them.
 module _ (b : Bus) (port : ℕ) where
-  pub wrote-lent : (byte : ℕ) → b.count ≤ 8 → length b.cards ≡ 8 → (zs : List IdState) (u : Wrote) (r : AfterWrite) → wrote_over u zs ≡ port_writes (lent (held b)) port byte →
+  pub wrote-lent : (byte : ℕ) → b.count ≤ 8 → length b.cards ≡ 8 → (zs : List IdState) (u : Result ⊤ Refusal) (r : After ⊤) → wrote_over u zs ≡ port_writes (lent (held b)) port byte →
       r ≡ record { bus = record { cards = zs ++ rest b; count = b.count }; answer = u } → wrote_of r ≡ port_writes b port byte
   wrote-lent byte few l zs u r e a = ap wrote_of a ∙ ap (behind b) e ∙ joins (writing (digit_of port) byte) b (allowed b port) (allowed (lent (held b)) port) (fits b port few l)
 
-  pub read-lent : b.count ≤ 8 → length b.cards ≡ 8 → (zs : List IdState) (u : Bit) (r : AfterRead) → read_over u zs ≡ port_reads (lent (held b)) port →
+  pub read-lent : b.count ≤ 8 → length b.cards ≡ 8 → (zs : List IdState) (u : Result ℕ Refusal) (r : After ℕ) → read_over u zs ≡ port_reads (lent (held b)) port →
       r ≡ record { bus = record { cards = zs ++ rest b; count = b.count }; answer = u } → read_of r ≡ port_reads b port
   read-lent few l zs u r e a = ap read_of a ∙ ap (behind b) e ∙ joins (reading (digit_of port)) b (allowed b port) (allowed (lent (held b)) port) (fits b port few l)
 
@@ -56,7 +53,7 @@ module _ (b : Bus) (port : ℕ) where
       r ≡ record { bus = record { cards = zs ++ rest b; count = b.count }; answer = u.answer; addresses = u.addresses } → found_of r ≡ finds_cards b port
   found-lent few l zs u r e a = ap found_of a ∙ ap (behind b) e ∙ joins (searching (digit_of port)) b (allowed b port) (allowed (lent (held b)) port) (fits b port few l)
 
-  pub activated-lent : (tag base : ℕ) → b.count ≤ 8 → length b.cards ≡ 8 → (zs : List IdState) (u : Activation) (r : AfterActivation) → activated_over u zs ≡ activates_card (lent (held b)) port tag base →
+  pub activated-lent : (tag base : ℕ) → b.count ≤ 8 → length b.cards ≡ 8 → (zs : List IdState) (u : Result ℕ Refusal) (r : After ℕ) → activated_over u zs ≡ activates_card (lent (held b)) port tag base →
       r ≡ record { bus = record { cards = zs ++ rest b; count = b.count }; answer = u } → activated_of r ≡ activates_card b port tag base
   activated-lent tag base few l zs u r e a =
       ap activated_of a ∙ ap (behind b) e

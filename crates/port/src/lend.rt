@@ -2,27 +2,26 @@
 ghost use Rattle.std.specs.Prelude.{◌≡◌, ◌≤◌};
 ghost use Rattle.port_rules.specs.PortContracts as contract;
 
-use port_rules::{
-    Activation, AfterActivation, AfterRead, AfterSearch, AfterWrite, Bit, Bus, Listed, Wrote,
-};
+use port_rules::{After, AfterSearch, Bus, Listed};
+use refusal::Refusal;
 
-fn after_write(bus: Bus, answer: Wrote) -> AfterWrite
+fn after<T>(bus: Bus, answer: Result<T, Refusal>) -> After<T>
     ensures { result ≡ record { bus = bus; answer = answer } }
 {
-    AfterWrite {
+    After {
         bus: bus,
         answer: answer,
     }
 }
 
-pub fn write(b: Bus, port: u16, byte: u8) -> AfterWrite
+pub fn write(b: Bus, port: u16, byte: u8) -> After<()>
     requires { b.count ≤ 8 }
     ensures { contract.PortWrite b port byte result }
 {
     let n = b.count;
     let mut cards = b.cards;
     let answer = lent_port::write(&mut cards[..n], port, byte);
-    after_write(
+    after(
         Bus {
             cards: cards,
             count: n,
@@ -31,23 +30,14 @@ pub fn write(b: Bus, port: u16, byte: u8) -> AfterWrite
     )
 }
 
-fn after_read(bus: Bus, answer: Bit) -> AfterRead
-    ensures { result ≡ record { bus = bus; answer = answer } }
-{
-    AfterRead {
-        bus: bus,
-        answer: answer,
-    }
-}
-
-pub fn read(b: Bus, port: u16) -> AfterRead
+pub fn read(b: Bus, port: u16) -> After<u8>
     requires { b.count ≤ 8 }
     ensures { contract.PortRead b port result }
 {
     let n = b.count;
     let mut cards = b.cards;
     let answer = lent_port::read(&mut cards[..n], port);
-    after_read(
+    after(
         Bus {
             cards: cards,
             count: n,
@@ -84,23 +74,14 @@ pub fn find(b: Bus, port: u16) -> AfterSearch
     )
 }
 
-fn after_activate(bus: Bus, answer: Activation) -> AfterActivation
-    ensures { result ≡ record { bus = bus; answer = answer } }
-{
-    AfterActivation {
-        bus: bus,
-        answer: answer,
-    }
-}
-
-pub fn activate(b: Bus, port: u16, tag: u8, base: u8) -> AfterActivation
+pub fn activate(b: Bus, port: u16, tag: u8, base: u8) -> After<usize>
     requires { b.count ≤ 8 }
     ensures { contract.ActivateCard b port tag base result }
 {
     let n = b.count;
     let mut cards = b.cards;
     let answer = lent_port::activate(&mut cards[..n], port, tag, base);
-    after_activate(
+    after(
         Bus {
             cards: cards,
             count: n,

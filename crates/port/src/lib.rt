@@ -7,9 +7,7 @@ ghost use Rattle.port_rules.specs.Port.{held};
 ghost use Rattle.port_rules.specs.Calls.{all_sound};
 ghost use Rattle.port_rules.specs.PortContracts as contract;
 
-use port_rules::{
-    Activation, AfterActivation, AfterRead, AfterSearch, AfterWrite, Bit, Bus, Found, Wrote,
-};
+use port_rules::{After, AfterSearch, Bus};
 use refusal::Refusal;
 
 mod lend; // lend.rt: the cards that are there, lent as a slice
@@ -27,30 +25,30 @@ fn too_many(b: Bus) -> Refusal
 }
 
 // A byte written to the port, which each card sees. A port is its I/O address, 100h to 1F0h.
-pub fn port_write(b: Bus, port: u16, byte: u8) -> AfterWrite
+pub fn port_write(b: Bus, port: u16, byte: u8) -> After<()>
     ensures { contract.PortWrite b port byte result }
 {
     if b.count <= 8 {
         return lend::write(b, port, byte);
     }
     let why = too_many(b);
-    AfterWrite {
+    After {
         bus: b,
-        answer: Wrote::Refused(why),
+        answer: Err(why),
     }
 }
 
 // A bit read from the port, and the cards as the contention leaves them.
-pub fn port_read(b: Bus, port: u16) -> AfterRead
+pub fn port_read(b: Bus, port: u16) -> After<u8>
     ensures { contract.PortRead b port result }
 {
     if b.count <= 8 {
         return lend::read(b, port);
     }
     let why = too_many(b);
-    AfterRead {
+    After {
         bus: b,
-        answer: Bit::Refused(why),
+        answer: Err(why),
     }
 }
 
@@ -64,21 +62,21 @@ pub fn find_cards(b: Bus, port: u16) -> AfterSearch
     let why = too_many(b);
     AfterSearch {
         bus: b,
-        answer: Found::Refused(why),
+        answer: Err(why),
         addresses: [0; 7],
     }
 }
 
 // Activation of the card with this tag, 1 to 7, at this base number; 31 means preconfigured.
-pub fn activate_card(b: Bus, port: u16, tag: u8, base: u8) -> AfterActivation
+pub fn activate_card(b: Bus, port: u16, tag: u8, base: u8) -> After<usize>
     ensures { contract.ActivateCard b port tag base result }
 {
     if b.count <= 8 {
         return lend::activate(b, port, tag, base);
     }
     let why = too_many(b);
-    AfterActivation {
+    After {
         bus: b,
-        answer: Activation::Refused(why),
+        answer: Err(why),
     }
 }

@@ -1,7 +1,7 @@
 #![tactic(auto)]
 // Three cards on ID port 110h are found, and the second is activated at base number 5. A tag of 8 is refused.
 use idport::fresh;
-use port_rules::{Activation, Bus, Found, IdState};
+use port_rules::{Bus, Cards, IdState};
 use refusal::Refusal;
 use std::io;
 
@@ -19,17 +19,17 @@ fn tell_refused(rt: &HostRuntime, why: Refusal) -> io::Result<()> {
     println!(rt; "refused {number}")
 }
 
-fn tell_found(rt: &HostRuntime, answer: Found) -> io::Result<()> {
+fn tell_found(rt: &HostRuntime, answer: Result<Cards, Refusal>) -> io::Result<()> {
     match answer {
-        Found::Refused(why) => tell_refused(rt, why),
-        Found::Cards { count, accesses } => println!(rt; "found {count} accesses {accesses}"),
+        Err(why) => tell_refused(rt, why),
+        Ok(Cards { count, accesses }) => println!(rt; "found {count} accesses {accesses}"),
     }
 }
 
-fn tell_activation(rt: &HostRuntime, answer: Activation) -> io::Result<()> {
+fn tell_activation(rt: &HostRuntime, answer: Result<usize, Refusal>) -> io::Result<()> {
     match answer {
-        Activation::Refused(why) => tell_refused(rt, why),
-        Activation::Done { accesses } => println!(rt; "activated accesses {accesses}"),
+        Err(why) => tell_refused(rt, why),
+        Ok(accesses) => println!(rt; "activated accesses {accesses}"),
     }
 }
 

@@ -7,4 +7,4 @@ use Rattle.port.proofs.lend.activate.Goals as goal
 pub returns : goal.returns
 returns c =
     let l : length c.args.b.cards ≡ 8 = search rules in
-    activated-lent c.args.b c.args.port _ _ c.requires l _ _ _ c.activate-answer.ensures c.after_activate.ensures
+    activated-lent c.args.b c.args.port _ _ c.requires l _ _ _ c.activate-answer.ensures c.after.ensures

@@ -7,4 +7,4 @@ use Rattle.port.proofs.lend.read.Goals as goal
 pub returns : goal.returns
 returns c =
     let l : length c.args.b.cards ≡ 8 = search rules in
-    read-lent c.args.b c.args.port c.requires l _ _ _ c.read-answer.ensures c.after_read.ensures
+    read-lent c.args.b c.args.port c.requires l _ _ _ c.read-answer.ensures c.after.ensures

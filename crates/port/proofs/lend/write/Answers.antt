@@ -7,4 +7,4 @@ use Rattle.port.proofs.lend.write.Goals as goal
 pub returns : goal.returns
 returns c =
     let l : length c.args.b.cards ≡ 8 = search rules in
-    wrote-lent c.args.b c.args.port _ c.requires l _ _ _ c.write-answer.ensures c.after_write.ensures
+    wrote-lent c.args.b c.args.port _ c.requires l _ _ _ c.write-answer.ensures c.after.ensures

@@ -21,13 +21,10 @@ overflow_add-dir c =
     let s = c.args in
     omega (arith, asked s.a s.count s.at s.ram.now s.dir.now c.requires.sound c.requires.fact, c.slice_known-1.given (s.a.first + s.count - 1))
 
-pub offset_bounds-dir-last-2 : goal.offset_bounds-dir-last-2
-offset_bounds-dir-last-2 c = omega (arith, asked c.args.a c.args.count c.args.at c.args.ram.now c.args.dir.now c.requires.sound c.requires.fact)
-
-pub bounds-dir-last-2 : goal.bounds-dir-last-2
-bounds-dir-last-2 c = omega (arith, asked c.args.a c.args.count c.args.at c.args.ram.now c.args.dir.now c.requires.sound c.requires.fact)
-
 pub returns : goal.returns
 returns c =
     let s = c.args in
     appends s.a s.count s.at s.b s.ram.now s.dir.now c.requires.sound c.requires.fact
+
+pub bounds-dir-last-2 : goal.bounds-dir-last-2
+bounds-dir-last-2 c = omega (arith, asked c.args.a c.args.count c.args.at c.args.ram.now c.args.dir.now c.requires.sound c.requires.fact)

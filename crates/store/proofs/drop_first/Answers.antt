@@ -11,8 +11,8 @@ overflow_sub-all c =
     let s = c.args in
     omega (arith, oldest-room s.a s.count s.ram.now s.dir.now c.requires.0 c.requires.1)
 
-pub shift_bytes-requires : goal.shift_bytes-requires
-shift_bytes-requires c =
+pub shift-requires : goal.shift-requires
+shift-requires c =
     let s = c.args in
     omega (arith, oldest-room s.a s.count s.ram.now s.dir.now c.requires.0 c.requires.1)
 
@@ -21,8 +21,8 @@ returns c =
     let s = c.args in
     let gone = c.room-gone.result in
     let left = c.used-all.result - gone in
-    let eb : c.shift_bytes.new.a ≡ shifted s.ram.now s.a.base gone left = c.shift_bytes.ensures in
-    let ew : c.shift_words.new.a ≡ shifted s.dir.now s.a.first 1 (s.count - 1) = c.shift_words.ensures in
+    let eb : c.shift.new.a ≡ shifted s.ram.now s.a.base gone left = c.shift.ensures in
+    let ew : c.shift-2.new.a ≡ shifted s.dir.now s.a.first 1 (s.count - 1) = c.shift-2.ensures in
     rw (eb, ew)
     (drops s.a s.count gone left s.ram.now s.dir.now c.requires.0 c.requires.1 c.room-gone.ensures
     (omega (arith, oldest-room s.a s.count s.ram.now s.dir.now c.requires.0 c.requires.1, c.room-gone.ensures, c.used-all.ensures)))

@@ -1,21 +1,17 @@
--- `store::used` meets its contract: the sum so far is the room of the first i words. Assumes nothing.
+-- `store::used` meets its contract: the sum so far is the room of the words so far. Assumes nothing.
+use Prim.Native.Nat.{◌+◌, ◌-◌}
 use borrow.Author.Rules.{rules}
-use mathlib.Core.Path.{◌≡◌}
 use native.Mathlib.Omega.{arith}
+use lib.ListN.{take, drop}
 use Rattle.store.specs.Store.{room_of}
 use Rattle.store.proofs.Laws.{room_more}
 use Rattle.store.proofs.used.Goals as goal
 
-pub loop-i-init : goal.loop-i-init
+pub loop-w-init : goal.loop-w-init
 unfolding room_of
-loop-i-init c = search rules
+loop-w-init c = search rules
 
-pub loop-i-preserved : goal.loop-i-preserved
-loop-i-preserved c =
+pub loop-w-preserved : goal.loop-w-preserved
+loop-w-preserved c =
     let s = c.args in
-    omega (arith, room_more s.dir.now s.first c.loop-i.i (omega arith))
-
-pub returns : goal.returns
-returns c =
-    let e : c.loop-i.i ≡ c.args.count = omega arith in
-    rw (← e) c.loop-i.invariant.1
+    omega (arith, room_more (take (s.first + s.count - s.first) (drop s.first s.dir.now)) c.loop-w.w-index c.loop-w-test.true)

@@ -1,11 +1,9 @@
--- `store::used` meets its contract: the sum so far is the room of the first i words. Assumes nothing.
+-- `store::used` meets its contract: the sum so far is the room of the words so far. Assumes nothing.
 use mathlib.Core.Path.{◌≡◌}
-use Prim.Native.Nat.{◌*◌, ◌-◌, ◌≤◌}
-use Rattle.store.specs.Store.{room_of, part}
+use Prim.Native.Nat.{◌*◌, ◌≤◌}
+use lib.ListN.{take}
+use Rattle.store.specs.Store.{room_of}
 use Rattle.store.proofs.used.Given as goal
 
-abbrev pub invariant-loop-i : goal.invariant-loop-i
-invariant-loop-i l = (l.i ≤ l.count) × (l.sum ≡ room_of (part l.first l.i l.dir)) × (l.sum ≤ 2048 * l.i)
-
-abbrev pub decreases-loop-i : goal.decreases-loop-i
-decreases-loop-i l = l.count - l.i
+abbrev pub invariant-loop-w : goal.invariant-loop-w
+invariant-loop-w l = (l.sum ≡ room_of (take l.w-index l.w-items)) × (l.sum ≤ 2048 * l.w-index)

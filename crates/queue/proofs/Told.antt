@@ -1,14 +1,13 @@
 -- What the wire is told of the oldest packet, and what is wanted of it, over plain numbers and lists. Assumes nothing.
-use mathlib.Core.Path.{◌≡◌, refl, sym, ap, ap₂, ◌∙◌}
+use mathlib.Core.Path.{◌≡◌, refl, sym, ap, ◌∙◌}
 use mathlib.Core.Bool.{Bool, true, false, cond}
-use mathlib.Core.List.{List, [], ◌∷◌, ◌++◌}
+use mathlib.Core.List.{List, ◌∷◌, ◌++◌}
 use Prim.Native.Nat.{ℕ, zero, suc, ◌+◌, ◌-◌, ◌/◌, ◌%◌, ◌≤◌, ◌<◌}
-use native.Mathlib.Numerals.{add-one}
 use native.Mathlib.Omega.{arith}
 use borrow.Author.Tests.{leb-true}
 use lib.Dec.{leb}
-use lib.ListN.{length, take, drop, get_or, set, replicate, length-append, length-set}
-use lib.Seq.{take-take, take-length}
+use lib.ListN.{length, drop, get_or, replicate, length-append}
+use lib.Seq.{take-take}
 use Rattle.store.specs.Store as store
 use Rattle.store.specs.Store.{frames, begun, len_of, part}
 use Rattle.store.proofs.Laws.{part_cons}
@@ -23,69 +22,17 @@ use Rattle.transmit_rules.proofs.Parts.{part_length}
 use Rattle.transmit_rules.proofs.Facts.{sizes}
 use Rattle.queue.proofs.Leave.{oldest-room}
 
--- ---- the bytes, one after another
-
--- i bytes of s stand before the rest of d
-pub front_more : (s d : List ℕ) (i : ℕ) → i < length s → i < length d → set (take i s ++ drop i d) i (get_or s i 0) ≡ take (i + 1) s ++ drop (i + 1) d
-front_more s d i hs hd = rw (add-one i) (go s d i hs hd)
-  where
-    go : (s d : List ℕ) (i : ℕ) → i < length s → i < length d → set (take i s ++ drop i d) i (get_or s i 0) ≡ take (suc i) s ++ drop (suc i) d
-    go [] d i hs hd = absurd (omega arith)
-    go (x ∷ s) [] i hs hd = absurd (omega arith)
-    go (x ∷ s) (y ∷ d) zero hs hd = refl
-    go (x ∷ s) (y ∷ d) (suc i) hs hd = ap (λ (r : List ℕ). x ∷ r) (go s d i (omega arith) (omega arith))
-
-zeros : (k i : ℕ) → ◌≡◌ {A = ℕ} (get_or (replicate k 0) i 0) 0
-zeros zero i = refl
-zeros (suc k) zero = refl
-zeros (suc k) (suc i) = zeros k i
+-- ---- the bytes and the zeros behind them
 
 pub length-zeros : (k : ℕ) → length {A = ℕ} (replicate k 0) ≡ k
 length-zeros zero = refl
 length-zeros (suc k) = ap suc (length-zeros k)
-
-pub get_or_padded : (l : List ℕ) (k i : ℕ) → get_or (l ++ replicate k 0) i 0 ≡ get_or l i 0
-get_or_padded [] k i = zeros k i
-get_or_padded (x ∷ l) k zero = refl
-get_or_padded (x ∷ l) k (suc i) = get_or_padded l k i
-
-pub get_d_past : (l : List ℕ) (i : ℕ) → length l ≤ i → get_or l i 0 ≡ 0
-get_d_past [] i h = refl
-get_d_past (x ∷ l) zero h = absurd (omega arith)
-get_d_past (x ∷ l) (suc i) h = get_d_past l i (omega arith)
 
 pub padded-length : (ram : List ℕ) (base len n : ℕ) → base + len ≤ length ram → len ≤ n → length (part base len ram ++ replicate (n - len) 0) ≡ n
 padded-length ram base len n h k =
     let a : length (part base len ram) ≡ len = part_length ram base len h in
     let b : length {A = ℕ} (replicate (n - len) 0) ≡ n - len = length-zeros (n - len) in
     length-append (part base len ram) (replicate (n - len) 0) ∙ omega arith
-
--- after i turns of the loop that tells
-pub record Told (ram out₀ : List ℕ) (base len n i : ℕ) (out : List ℕ) : Type 0 where
-  pub few : i ≤ n
-  pub long : length out ≡ length out₀
-  pub front : out ≡ take i (part base len ram ++ replicate (n - len) 0) ++ drop i out₀
-
-pub told_more : (ram out₀ : List ℕ) (base len n i : ℕ) (out : List ℕ) (b : ℕ) → base + len ≤ length ram → len ≤ n → n ≤ length out₀ → i < n
-    → b ≡ get_or (part base len ram) i 0 → Told ram out₀ base len n i out → Told ram out₀ base len n (i + 1) (set out i b)
-told_more ram out₀ base len n i out b h k l j e T =
-    let all : List ℕ = part base len ram ++ replicate (n - len) 0 in
-    let len-all : length all ≡ n = padded-length ram base len n h k in
-    let d : b ≡ get_or all i 0 = e ∙ sym (get_or_padded (part base len ram) (n - len) i) in
-    record {
-      few = omega arith;
-      long = length-set out i b ∙ T.long;
-      front = ap₂ (λ (o : List ℕ) (x : ℕ). set o i x) T.front d ∙ front_more all out₀ i (omega arith) (omega arith);
-    }
-
-pub told_all : (ram out₀ : List ℕ) (base len n i : ℕ) (out : List ℕ) → base + len ≤ length ram → len ≤ n → n ≤ i
-    → Told ram out₀ base len n i out → out ≡ (part base len ram ++ replicate (n - len) 0) ++ drop n out₀
-told_all ram out₀ base len n i out h k j T =
-    let all : List ℕ = part base len ram ++ replicate (n - len) 0 in
-    let len-all : length all ≡ n = padded-length ram base len n h k in
-    let e : i ≡ n = omega (arith, T.few) in
-    let whole : take n all ≡ all = ap (λ (x : ℕ). take x all) (sym len-all) ∙ take-length all in
-    T.front ∙ ap (λ (x : ℕ). take x all ++ drop x out₀) e ∙ ap (λ (l : List ℕ). l ++ drop n out₀) whole
 
 -- ---- the oldest packet
 

@@ -11,14 +11,9 @@ pub fn good_words(dir: &[u16], n: usize) -> bool
     requires { (768 + n ≤ length dir.now) × (n < 65536) }
     ensures { result ≡ good_words (part 768 n dir.now) }
 {
-    let mut good = true;
-    let mut i: usize = 0;
-    while i < n {
-        let len = dir[FIRST + i] % 2048;
-        good = good & (6 <= len) & (len <= LONGEST);
-        i += 1;
-    }
-    good
+    dir[FIRST..FIRST + n]
+        .iter()
+        .all(|w| (6 <= w % 2048) & (w % 2048 <= LONGEST))
 }
 
 // The packet being written, of which k words have come, has a good length and is not whole yet.

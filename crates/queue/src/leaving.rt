@@ -31,27 +31,14 @@ pub fn leave_first(ram: &mut [u8], dir: &mut [u16], size: usize, f: Fifo) -> Fif
     requires { Holds size f ram.old dir.old × (0 < f.packets) }
     ensures { Turns size result ram.old dir.old ram.new dir.new (leave (queue_of size f ram.old dir.old)) }
 {
-    let n = f.packets;
-    let k = f.words;
-    let all = store::used(dir, FIRST, n);
+    let all = store::used(dir, FIRST, f.packets);
     let gone = store::room(dir[FIRST]);
-    let data = data_bytes(k);
-    store::shift_bytes(ram, RAM - size, gone, all - gone + data);
-    store::shift_words(dir, FIRST, 1, n);
+    // The data bytes that have come of the one being written: two a word, but for the preamble's two words.
+    let data = 2 * f.words.saturating_sub(2);
+    store::shift(ram, RAM - size, gone, all - gone + data);
+    store::shift(dir, FIRST, 1, f.packets);
     Fifo {
-        failed: f.failed,
-        packets: n - 1,
-        words: k,
+        packets: f.packets - 1,
+        ..f
     }
-}
-
-// The data bytes that have come when k words have.
-fn data_bytes(k: usize) -> usize
-    requires { k ≤ 2048 }
-    ensures { result ≡ 2 * (k - 2) }
-{
-    if k < 2 {
-        return 0;
-    }
-    2 * (k - 2)
 }

@@ -29,8 +29,7 @@ pub fn fifo_sound(ram: &[u8], dir: &[u16], size: usize, f: Fifo) -> bool
     requires { (size ≤ 4096) × (8192 ≤ length ram.now) × (1110 ≤ length dir.now) }
     ensures { result ≡ sound_fifo size f ram.now dir.now }
 {
-    let n = f.packets;
-    let k = f.words;
+    let (n, k) = (f.packets, f.words);
     if 341 < n {
         return false;
     }
@@ -51,9 +50,7 @@ pub fn fifo_free(ram: &[u8], dir: &[u16], size: usize, f: Fifo) -> usize
     requires { Holds size f ram.now dir.now }
     ensures { result ≡ free size (queue_of size f ram.now dir.now) }
 {
-    let n = f.packets;
-    let k = f.words;
-    size - (store::used(dir, FIRST, n) + 4 * n + 2 * k)
+    size - (store::used(dir, FIRST, f.packets) + 4 * f.packets + 2 * f.words)
 }
 
 // The host writes a word.
@@ -61,28 +58,16 @@ pub fn put_word(ram: &mut [u8], dir: &mut [u16], size: usize, f: Fifo, v: u16) -
     requires { Holds size f ram.old dir.old }
     ensures { Turns size result ram.old dir.old ram.new dir.new (put size v (queue_of size f ram.old dir.old)) }
 {
-    let n = f.packets;
-    let k = f.words;
     if f.failed {
         return f;
     }
-    let used = store::used(dir, FIRST, n);
-    if size < used + 4 * n + 2 * k + 2 {
-        return Fifo {
-            failed: true,
-            packets: n,
-            words: k,
-        };
+    let used = store::used(dir, FIRST, f.packets);
+    if size < used + 4 * f.packets + 2 * f.words + 2 {
+        return Fifo { failed: true, ..f };
     }
-    if k == 0 {
-        return words::put_first(ram, dir, size, f, v);
+    match f.words {
+        0 => words::put_first(ram, dir, size, f, v),
+        1 => Fifo { words: 2, ..f },
+        k => words::put_data(ram, dir, size, f, RAM - size + used + 2 * (k - 2), v),
     }
-    if k == 1 {
-        return Fifo {
-            failed: false,
-            packets: n,
-            words: 2,
-        };
-    }
-    words::put_data(ram, dir, size, f, RAM - size + used + 2 * (k - 2), v)
 }

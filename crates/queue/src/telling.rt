@@ -3,27 +3,13 @@ ghost use Rattle.std.specs.Prelude.{◌≡◌, cond, ◌++◌, ◌+◌, ◌-◌,
 ghost use Rattle.store.specs.Store.{part};
 ghost use Rattle.bits.specs.Bits.{has};
 
-// A byte of a packet's data, or 0 past its end.
-fn packet_byte(ram: &[u8], base: usize, len: usize, i: usize) -> u8
-    requires { base + len ≤ length ram.now }
-    ensures { result ≡ get_or (part base len ram.now) i 0 }
-{
-    if i < len {
-        return ram[base + i];
-    }
-    0
-}
-
 // The n bytes told of a packet whose `len` bytes lie from `base` on.
 pub fn tell_bytes(ram: &[u8], base: usize, len: usize, n: usize, out: &mut [u8])
     requires { (base + len ≤ length ram.now) × (len ≤ n) × (n ≤ length out.old) }
     ensures { out.new ≡ (part base len ram.now ++ replicate (n - len) 0) ++ drop n out.old }
 {
-    let mut i: usize = 0;
-    while i < n {
-        out[i] = packet_byte(ram, base, len, i);
-        i += 1;
-    }
+    out[..len].copy_from_slice(&ram[base..base + len]);
+    out[len..n].fill(0);
 }
 
 // How many bytes are told of the packet of a directory word.
@@ -34,8 +20,5 @@ pub fn told_length(w: u16) -> usize
     if bits::has(w / 2048, 4) {
         return len;
     }
-    if len < 60 {
-        return 60;
-    }
-    len
+    len.max(60)
 }

@@ -13,21 +13,12 @@ pub fn put_first(ram: &[u8], dir: &mut [u16], size: usize, f: Fifo, v: u16) -> F
     requires { Holds size f ram.now dir.old × (f.failed ≡ false) × (f.words ≡ 0) × (2 ≤ free size (queue_of size f ram.now dir.old)) }
     ensures { Turns size result ram.now dir.old ram.now dir.new (put size v (queue_of size f ram.now dir.old)) }
 {
-    let n = f.packets;
     let len = v % 2048;
     if (6 <= len) & (len <= LONGEST) {
-        dir[FIRST + n] = v;
-        return Fifo {
-            failed: false,
-            packets: n,
-            words: 1,
-        };
+        dir[FIRST + f.packets] = v;
+        return Fifo { words: 1, ..f };
     }
-    Fifo {
-        failed: true,
-        packets: n,
-        words: 0,
-    }
+    Fifo { failed: true, ..f }
 }
 
 // A word of data; its two bytes go to `at`, the low one first.
@@ -36,21 +27,18 @@ pub fn put_data(ram: &mut [u8], dir: &[u16], size: usize, f: Fifo, at: usize, v:
     requires at_value { at ≡ 8192 - size + room_of (part 768 f.packets dir.now) + 2 * (f.words - 2) }
     ensures { Turns size result ram.old dir.now ram.new dir.now (completed (with_part (written v (queue_of size f ram.old dir.now).part) (queue_of size f ram.old dir.now))) }
 {
-    let n = f.packets;
-    let k = f.words;
     ram[at] = (v % 256) as u8;
     ram[at + 1] = (v / 256) as u8;
-    let len = (dir[FIRST + n] % 2048) as usize;
-    if 2 * k == (len + 3) / 4 * 4 + 2 {
+    let room = store::room(dir[FIRST + f.packets]);
+    if 2 * f.words == room + 2 {
         return Fifo {
-            failed: f.failed,
-            packets: n + 1,
+            packets: f.packets + 1,
             words: 0,
+            ..f
         };
     }
     Fifo {
-        failed: f.failed,
-        packets: n,
-        words: k + 1,
+        words: f.words + 1,
+        ..f
     }
 }

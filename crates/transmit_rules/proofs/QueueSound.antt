@@ -1,16 +1,15 @@
 -- The test that a call makes says what `Holds` says. Assumes nothing.
-use mathlib.Core.Path.{◌≡◌, refl, sym, ap, ◌∙◌}
-use mathlib.Core.Bool.{Bool, true, false, ◌&&◌, ◌||◌, and-true, and_assoc}
-use mathlib.Core.List.{List, [], ◌∷◌, ◌++◌}
+use mathlib.Core.Path.{◌≡◌, refl, ap, ◌∙◌}
+use mathlib.Core.Bool.{Bool, true, false, ◌&&◌, ◌||◌}
+use mathlib.Core.List.{List, [], ◌∷◌}
 use Prim.Native.Nat.{ℕ, zero, suc, ◌+◌, ◌*◌, ◌-◌, ◌%◌, ◌≤◌, ◌<◌}
-use native.Mathlib.Numerals.{add-one}
 use native.Mathlib.Omega.{arith}
 use borrow.Author.Tests.{leb-true, le-leb, lt-leb, eq-eqb}
 use lib.Dec.{leb, ltb, eqb}
 use lib.ListN.{length, drop, get_or, length-drop}
 use lib.Seq.{length-take-le}
+use Rattle.std.specs.List.{list_all}
 use Rattle.store.specs.Store.{frames, len_of, round4, room_of, part}
-use Rattle.store.proofs.Laws.{part_snoc}
 use Rattle.transmit_rules.specs.Queue.{room}
 use Rattle.transmit_rules.specs.Write.{sized}
 use Rattle.transmit_rules.specs.QueueSound.{all_sized, growing, orderly}
@@ -20,17 +19,11 @@ use Rattle.bits.proofs.Tests.{by_test, both}
 use Rattle.transmit_rules.proofs.Parts.{part_length}
 use Rattle.transmit_rules.proofs.Facts.{words_of, room_of_lem, facts}
 
-good_snoc : (ws : List ℕ) (w : ℕ) → good_words (ws ++ (w ∷ [])) ≡ (good_words ws && sized (w % 2048))
+-- the test as `all` asks it of each word
+pub all_good : (ws : List ℕ) → list_all (λ (w : ℕ). sized (w % 2048)) ws ≡ good_words ws
 unfolding good_words
-good_snoc [] w = and-true (sized (w % 2048))
-good_snoc (x ∷ ws) w = ap (λ (t : Bool). sized (x % 2048) && t) (good_snoc ws w) ∙ sym (and_assoc (sized (x % 2048)) (good_words ws) (sized (w % 2048)))
-
-pub good_more : (dir : List ℕ) (i : ℕ) (t : Bool) → 768 + i < length dir → t ≡ good_words (part 768 i dir)
-    → (t && leb 6 (get_or dir (768 + i) 0 % 2048) && leb (get_or dir (768 + i) 0 % 2048) 1792) ≡ good_words (part 768 (i + 1) dir)
-good_more dir i t h e =
-    let w : ℕ = get_or dir (768 + i) 0 in
-    and_assoc t (leb 6 (w % 2048)) (leb (w % 2048) 1792) ∙ ap (λ (b : Bool). b && sized (w % 2048)) e
-    ∙ sym (ap (λ (j : ℕ). good_words (part 768 j dir)) (add-one i) ∙ ap good_words (part_snoc dir 768 i h) ∙ good_snoc (part 768 i dir) w)
+all_good [] = refl
+all_good (w ∷ ws) = ap (λ (b : Bool). sized (w % 2048) && b) (all_good ws)
 
 good-frames : (ws m : List ℕ) → room_of ws ≤ length m → all_sized (frames ws m) ≡ good_words ws
 unfolding all_sized good_words frames room_of

@@ -1,12 +1,14 @@
 -- `queue::put_word` meets its contract: each of its five ways is one of the definition's. Assumes nothing.
-use mathlib.Core.Path.{◌≡◌, sym}
+use mathlib.Core.Path.{◌≡◌, sym, subst}
+use mathlib.Core.Bool.{Bool}
 use mathlib.Core.List.{List}
 use Rattle.transmit_rules.specs.declared.Fifo.{Fifo}
 use Prim.Native.Nat.{ℕ, ◌≤◌, ◌<◌, ◌+◌, ◌*◌}
 use native.Mathlib.Omega.{arith}
 use Rattle.store.specs.Store.{room_of, part}
 use Rattle.transmit_rules.specs.Queue.{free}
-use Rattle.transmit_rules.specs.QueueView.{queue_of, Packed}
+use Rattle.transmit_rules.specs.QueueView.{queue_of, Packed, Turns}
+use Rattle.transmit_rules.specs.Write.{put}
 use Rattle.transmit_rules.proofs.Facts.{facts, free_of, words_of}
 use Rattle.transmit_rules.proofs.Put.{put-stays, put_full, put_more, turns_same, seconds}
 use Rattle.queue.proofs.put_word.Goals as goal
@@ -23,8 +25,8 @@ returns-then-f c =
     let s = c.args in
     turns_same s.size s.f s.ram.now s.dir.now _ c.requires.packed (sym (put-stays s.size s.v (queue_of s.size s.f s.ram.now s.dir.now) c.if-f.true))
 
-pub overflow_mul-k : goal.overflow_mul-k
-overflow_mul-k c = omega (arith, (facts c.args.size c.args.f c.args.ram.now c.args.dir.now c.requires).few)
+pub overflow_mul-f-2 : goal.overflow_mul-f-2
+overflow_mul-f-2 c = omega (arith, (facts c.args.size c.args.f c.args.ram.now c.args.dir.now c.requires).few)
 
 pub overflow_add-used-2 : goal.overflow_add-used-2
 overflow_add-used-2 c =
@@ -42,23 +44,24 @@ returns-then-size-used c =
 
 pub put_first-requires : goal.put_first-requires
 put_first-requires c =
-    (c.requires, c.if-f.false, c.if-k-eq0.true, left c.args.size _ c.args.f c.args.ram.now c.args.dir.now c.requires.packed c.used-used.ensures c.if-size-used.false)
+    (c.requires, c.if-f.false, c.in-0.is, left c.args.size _ c.args.f c.args.ram.now c.args.dir.now c.requires.packed c.used-used.ensures c.if-size-used.false)
 
-pub returns-then-k-eq0 : goal.returns-then-k-eq0
-returns-then-k-eq0 c = c.put_first.ensures
+pub returns-in-0 : goal.returns-in-0
+returns-in-0 c = c.put_first.ensures
 
-pub returns-then-k-eq1 : goal.returns-then-k-eq1
-returns-then-k-eq1 c =
+pub returns-in-1 : goal.returns-in-1
+returns-in-1 c =
     let s = c.args in
-    seconds s.size s.v s.f s.ram.now s.dir.now c.requires c.if-f.false (left c.args.size _ c.args.f c.args.ram.now c.args.dir.now c.requires.packed c.used-used.ensures c.if-size-used.false) c.if-k-eq1.true
+    subst (λ (b : Bool). Turns s.size (record { failed = b; packets = s.f.packets; words = 2 }) s.ram.now s.dir.now s.ram.now s.dir.now (put s.size s.v (queue_of s.size s.f s.ram.now s.dir.now))) (sym c.if-f.false)
+    (seconds s.size s.v s.f s.ram.now s.dir.now c.requires c.if-f.false (left c.args.size _ c.args.f c.args.ram.now c.args.dir.now c.requires.packed c.used-used.ensures c.if-size-used.false) c.in-1.is)
 
 pub put_data-requires : goal.put_data-requires
 put_data-requires c =
-    record { holds = (c.requires, omega (arith, c.if-k-eq0.false, c.if-k-eq1.false), left c.args.size _ c.args.f c.args.ram.now c.args.dir.now c.requires.packed c.used-used.ensures c.if-size-used.false); at_value = omega (arith, c.used-used.ensures) }
+    record { holds = (c.requires, omega (arith, c.in_default), left c.args.size _ c.args.f c.args.ram.now c.args.dir.now c.requires.packed c.used-used.ensures c.if-size-used.false); at_value = omega (arith, c.used-used.ensures) }
 
-pub returns : goal.returns
-returns c =
+pub returns-in_default : goal.returns-in_default
+returns-in_default c =
     let s = c.args in
     let q = queue_of s.size s.f s.ram.now s.dir.now in
-    let more : 2 ≤ q.part.words = omega (arith, words_of s.size s.f.packets s.f.words s.ram.now s.dir.now, c.if-k-eq0.false, c.if-k-eq1.false) in
+    let more : 2 ≤ q.part.words = omega (arith, words_of s.size s.f.packets s.f.words s.ram.now s.dir.now, c.in_default) in
     rw (put_more s.size s.v q c.if-f.false (left c.args.size _ c.args.f c.args.ram.now c.args.dir.now c.requires.packed c.used-used.ensures c.if-size-used.false) more) c.put_data.ensures

@@ -23,17 +23,17 @@ bounds-ram-at-2 c =
     let R = room-left s.size s.v s.at s.f s.ram.now s.dir.now c.requires.holds.0 c.requires.holds.1 c.requires.holds.2 c.requires.at_value in
     simp length-set (omega (arith, R.high, R.in_ram))
 
-pub bounds-dir-n : goal.bounds-dir-n
-bounds-dir-n c =
+pub bounds-dir-f : goal.bounds-dir-f
+bounds-dir-f c =
     let s = c.args in
     omega (arith, (facts s.size s.f s.ram.now s.dir.now c.requires.holds.0).place, c.requires.holds.0.packed.in_dir)
 
-pub returns-then-k-len : goal.returns-then-k-len
-returns-then-k-len c =
+pub returns-then-f-room : goal.returns-then-f-room
+returns-then-f-room c =
     let s = c.args in
-    data_whole s.size s.v s.at s.f s.ram.now s.dir.now c.requires.holds.0 c.requires.holds.1 c.requires.holds.2 c.requires.at_value c.if-k-len.true
+    data_whole s.size s.v s.at s.f s.ram.now s.dir.now c.requires.holds.0 c.requires.holds.1 c.requires.holds.2 c.requires.at_value (omega (arith, c.if-f-room.true, c.room-room.ensures))
 
 pub returns : goal.returns
 returns c =
     let s = c.args in
-    data_more s.size s.v s.at s.f s.ram.now s.dir.now c.requires.holds.0 c.requires.holds.1 c.requires.holds.2 c.requires.at_value c.if-k-len.false
+    data_more s.size s.v s.at s.f s.ram.now s.dir.now c.requires.holds.0 c.requires.holds.1 c.requires.holds.2 c.requires.at_value (λ q. c.if-f-room.false (omega (arith, q, c.room-room.ensures)))

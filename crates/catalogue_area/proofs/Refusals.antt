@@ -8,9 +8,10 @@ use lib.ListN.{length}
 use lib.Dec.{eqb}
 use Rattle.bits.proofs.Tests.{never, of_cond}
 use Rattle.refusal.specs.declared.Refusal.{Refusal}
+use Rattle.std.specs.Prelude.{Result}
 use Rattle.refusal.specs.declared.Refusal.TheVariants.{ArgumentOutside, LengthOutside, MakerWrong, ChecksumWrong, SecondaryWrong, NoSuchCard, NoPlace, ListedTwice}
 use Rattle.refusal.specs.Number.{number_of}
-use Rattle.image_rules.specs.declared.Checked.{Checked}
+use Rattle.image_rules.specs.declared.Node.{Node}
 use Rattle.image_rules.specs.Image.{word_at, checksum_of, secondary_of, or_refused, check_of}
 use Rattle.catalogue_rules.specs.Field.{Field, fields_of, left_of}
 use Rattle.catalogue_rules.specs.declared.Turn.{Turn}
@@ -33,7 +34,7 @@ or_else_not false why rest w r = r
 
 -- ---- an image
 
-check-not : (b : Bool) (why : Refusal) (checked : Checked) (change : Change) → eqb (number_of why) 12 ≡ false → is_area (if_sound checked change) ≡ false
+check-not : (b : Bool) (why : Refusal) (checked : Result Node Refusal) (change : Change) → eqb (number_of why) 12 ≡ false → is_area (if_sound checked change) ≡ false
     → is_area (if_sound (or_refused b why checked) change) ≡ false
 check-not true why checked change w r = r
 check-not false why checked change w r = w

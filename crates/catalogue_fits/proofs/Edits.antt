@@ -7,21 +7,21 @@ use mathlib.Core.List.{List}
 use borrow.Author.Tests.{not-false}
 use lib.ListN.{length}
 use lib.Dec.{eqb, ltb}
+use Rattle.std.specs.Prelude.{Result, Ok, Err}
 use Rattle.refusal.specs.declared.Refusal.{Refusal}
 use Rattle.refusal.specs.declared.Refusal.TheVariants.{ArgumentOutside, LengthOutside, MakerWrong, ChecksumWrong, SecondaryWrong, NoSuchCard, NoPlace, ListedTwice}
-use Rattle.image_rules.specs.declared.Checked.{Checked}
-use Rattle.image_rules.specs.declared.Checked.TheVariants as checked
+use Rattle.image_rules.specs.declared.Node.{Node}
 use Rattle.image_rules.specs.Image.{word_at, checksum_of, secondary_of, or_refused, check_of}
 use Rattle.catalogue_rules.specs.Reading.{Reading, parsed, read, has_room, addresses_of, is_among, any_twice, file_of}
 use Rattle.catalogue_rules.specs.Archive.{addresses_in, moved_out}
 use Rattle.catalogue_rules.specs.Edit.{Change, bytes, or_else, on_catalogue, if_sound, whose, no_place, is_for, any_for, images_in, with_added, added_to, added, dropped_from, dropped, all_sound, imported, exported}
 use Rattle.catalogue_rules.specs.Put.{answer_of}
 use Rattle.catalogue_fits.specs.Tests.{Outcome, fine, because, first_of, add_tests, drop_tests, import_tests, export_tests}
-use Rattle.catalogue_fits.specs.Fits.{of_written}
+use Rattle.catalogue_fits.specs.Fits.{outcome_of}
 use Rattle.catalogue_fits.proofs.Readings.{InTurn, whole, damaged, early, in_turn_lem, roomy_faults}
 
 abbrev outcome : Change → Outcome
-outcome change = of_written (answer_of change)
+outcome change = outcome_of (answer_of change)
 
 -- A test, and what is behind it where it does not hold.
 or_else_lem : (b : Bool) (why : Refusal) (rest : Change) (o : Outcome) → (b ≡ false → outcome rest ≡ o) → outcome (or_else b why rest) ≡ cond b (because why) o
@@ -30,13 +30,13 @@ or_else_lem false why rest o k = k refl
 
 -- ---- the check of an image of 128 bytes
 
-data Tried : Checked → Type 0 where
-  sound : (node0 node1 node2 : ℕ) → Tried (checked.Sound node0 node1 node2)
-  maker : Tried (checked.Refused MakerWrong)
-  checksum : Tried (checked.Refused ChecksumWrong)
-  secondary : Tried (checked.Refused SecondaryWrong)
+data Tried : Result Node Refusal → Type 0 where
+  sound : (node : Node) → Tried (Ok node)
+  maker : Tried (Err MakerWrong)
+  checksum : Tried (Err ChecksumWrong)
+  secondary : Tried (Err SecondaryWrong)
 
-tried_or : (b : Bool) (why : Refusal) (c : Checked) → Tried (checked.Refused why) → Tried c → Tried (or_refused b why c)
+tried_or : (b : Bool) (why : Refusal) (c : Result Node Refusal) → Tried (Err why) → Tried c → Tried (or_refused b why c)
 tried_or true why c w t = t
 tried_or false why c w t = w
 
@@ -47,12 +47,12 @@ tried image e =
     (tried_or (eqb (word_at image 0x07) 0x6D50) MakerWrong _ maker
     (tried_or (eqb (word_at image 0x0F) (checksum_of image)) ChecksumWrong _ checksum
     (tried_or (eqb (word_at image 0x17) (secondary_of image)) SecondaryWrong _ secondary
-    (sound (word_at image 0x00) (word_at image 0x01) (word_at image 0x02)))))
+    (sound _))))
 
-image_outcome : {c : Checked} → Tried c → (file : List ℕ)
+image_outcome : {c : Result Node Refusal} → Tried c → (file : List ℕ)
     → outcome (if_sound c (bytes file))
     ≡ cond (is_for MakerWrong c) (because MakerWrong) (cond (is_for ChecksumWrong c) (because ChecksumWrong) (cond (is_for SecondaryWrong c) (because SecondaryWrong) fine))
-image_outcome (sound node0 node1 node2) file = refl
+image_outcome (sound node) file = refl
 image_outcome maker file = refl
 image_outcome checksum file = refl
 image_outcome secondary file = refl

@@ -4,6 +4,7 @@ use Prim.Native.Nat.{ℕ}
 use mathlib.Core.Path.{◌≡◌, refl}
 use mathlib.Core.List.{List, [], ◌∷◌, ◌++◌}
 use lib.ListN.{replicate}
+use Rattle.std.specs.Prelude.{Ok}
 use Rattle.refusal.specs.declared.Refusal.TheVariants.{MakerWrong, NoSuchCard, NoPlace}
 use Rattle.image_rules.specs.Image.{check_of, word_at, checksum_of, secondary_of, xor_of, both_bytes}
 use Rattle.catalogue_rules.specs.Field.{Field, field, is_whole, fields_within, fields_of, left_within, left_of, bytes_of}
@@ -12,10 +13,9 @@ use Rattle.catalogue_rules.specs.Reading.{file_of, reading, addresses_of, any_tw
 use Rattle.catalogue_rules.specs.Cards.{versions_from, versions_at}
 use Rattle.catalogue_rules.specs.Archive.{addresses_in}
 use Rattle.catalogue_rules.specs.Edit.{latest_number, images_in, images_within, any_for}
-use Rattle.catalogue_rules.specs.declared.Place.TheVariants.{At}
-use Rattle.catalogue_rules.specs.Lookup.{spots_from, spots_at, last_spot, numbered_spot, latest_in, given_in}
+use Rattle.catalogue_rules.specs.Lookup.{span, spots_from, spots_at, last_spot, numbered_spot, latest_in, given_in}
 use Rattle.catalogue_fits.specs.Tests.{because, first_of, latest_tests, add_tests, import_tests}
-use Rattle.catalogue_fits.specs.Fits.{of_place, NothingElseFits}
+use Rattle.catalogue_fits.specs.Fits.{outcome_of, NothingElseFits}
 
 -- An image whose address ends in a; its word 0Fh has the high byte sum.
 image_of : ℕ → ℕ → List ℕ
@@ -33,9 +33,9 @@ twice : List ℕ
 twice = file_of (card 1 255 255 ++ card 1 1 0)
 
 -- Card 1 has version 7 and no version 1: the latest is found.
-latest-found : NothingElseFits → of_place (At 17 128) ≡ first_of (latest_tests seven 1)
+latest-found : NothingElseFits → outcome_of (Ok (span 17 128)) ≡ first_of (latest_tests seven 1)
 unfolding latest_in last_spot given_in numbered_spot spots_at spots_from reading after fields_of left_of fields_within left_within is_whole addresses_of any_twice address_of file_of bytes_of seven card
-latest-found all = (all.latest seven 1).exactly (At 17 128) refl
+latest-found all = (all.latest seven 1).exactly (Ok (span 17 128)) refl
 
 -- Card 2 is not listed where card 1 is listed twice: 17 before 19.
 missing_before_twice : first_of (latest_tests twice 2) ≡ because NoSuchCard

@@ -7,17 +7,18 @@ use mathlib.Core.List.{List, [], ◌∷◌}
 use lib.ListN.{length}
 use lib.Dec.{eqb}
 use Rattle.bits.proofs.Tests.{never, neither}
+use Rattle.std.specs.Prelude.{Result, Ok, Err}
+use Rattle.refusal.specs.declared.Refusal.{Refusal}
 use Rattle.refusal.specs.declared.Refusal.TheVariants.{NoSuchCard}
 use Rattle.catalogue_rules.specs.Field.{Field, size_of, number_at, fields_of, left_of}
 use Rattle.catalogue_rules.specs.Turns.{address_of}
 use Rattle.catalogue_rules.specs.Reading.{catalogue, parsed, addresses_of, is_among}
 use Rattle.catalogue_rules.specs.Cards.{Version, versions_from, versions_at}
-use Rattle.catalogue_rules.specs.declared.Place.{Place}
-use Rattle.catalogue_rules.specs.declared.Place.TheVariants.{At, Refused}
-use Rattle.catalogue_rules.specs.Lookup.{Spot, spot, spots_from, spots_at, last_spot, numbered_spot, where_sound}
+use Rattle.catalogue_rules.specs.declared.Span.{Span}
+use Rattle.catalogue_rules.specs.Lookup.{span, Spot, spot, spots_from, spots_at, last_spot, numbered_spot, where_sound}
 use Rattle.catalogue_rules.proofs.Listed.{First, some, listed_has}
 use Rattle.catalogue_fits.specs.Tests.{because, is_numbered}
-use Rattle.catalogue_fits.specs.Fits.{of_place}
+use Rattle.catalogue_fits.specs.Fits.{outcome_of}
 use Rattle.catalogue_fits.proofs.Readings.{faults}
 
 -- ---- as many places as versions, with their numbers
@@ -53,33 +54,33 @@ alike a (f ∷ fs) at = card-if (eqb f.tag 1) (eqb (address_of f.value) a) (alik
 
 -- ---- what is found, behind 17
 
-at_place : (room twice : Bool) (start len : ℕ) → of_place (where_sound room twice (At start len)) ≡ faults room twice
-at_place true true start len = refl
-at_place true false start len = refl
-at_place false twice start len = refl
+at_place : (room twice : Bool) (p : Span) → outcome_of (where_sound room twice (Ok p)) ≡ faults room twice
+at_place true true p = refl
+at_place true false p = refl
+at_place false twice p = refl
 
-last_found : (room twice : Bool) (start len : ℕ) (ss : List Spot) → of_place (where_sound room twice (last_spot (At start len) ss)) ≡ faults room twice
+last_found : (room twice : Bool) (p : Span) (ss : List Spot) → outcome_of (where_sound room twice (last_spot (Ok p) ss)) ≡ faults room twice
 unfolding last_spot
-last_found room twice start len [] = at_place room twice start len
-last_found room twice start len (s ∷ ss) = last_found room twice s.start s.size ss
+last_found room twice p [] = at_place room twice p
+last_found room twice p (s ∷ ss) = last_found room twice (span s.start s.size) ss
 
 last_some : (room twice : Bool) {ss : List Spot} {vs : List Version} → Alike ss vs
-    → of_place (where_sound room twice (last_spot (Refused NoSuchCard) ss)) ≡ cond (not (some vs)) (because NoSuchCard) (faults room twice)
+    → outcome_of (where_sound room twice (last_spot (Err NoSuchCard) ss)) ≡ cond (not (some vs)) (because NoSuchCard) (faults room twice)
 unfolding last_spot some
 last_some room twice none = refl
-last_some room twice (one {ss} n start size image l) = last_found room twice start size ss
+last_some room twice (one {ss} n start size image l) = last_found room twice (span start size) ss
 
-numbered-if : (b more room twice : Bool) (start len : ℕ) (p : Place) → of_place (where_sound room twice p) ≡ cond (not more) (because NoSuchCard) (faults room twice)
-    → of_place (where_sound room twice (cond b (At start len) p)) ≡ cond (not (b || more)) (because NoSuchCard) (faults room twice)
-numbered-if true more room twice start len p e = at_place room twice start len
-numbered-if false more room twice start len p e = e
+numbered-if : (b more room twice : Bool) (here : Span) (p : Result Span Refusal) → outcome_of (where_sound room twice p) ≡ cond (not more) (because NoSuchCard) (faults room twice)
+    → outcome_of (where_sound room twice (cond b (Ok here) p)) ≡ cond (not (b || more)) (because NoSuchCard) (faults room twice)
+numbered-if true more room twice here p e = at_place room twice here
+numbered-if false more room twice here p e = e
 
 numbered-found : (n : ℕ) (room twice : Bool) {ss : List Spot} {vs : List Version} → Alike ss vs
-    → of_place (where_sound room twice (numbered_spot n ss)) ≡ cond (not (is_numbered n vs)) (because NoSuchCard) (faults room twice)
+    → outcome_of (where_sound room twice (numbered_spot n ss)) ≡ cond (not (is_numbered n vs)) (because NoSuchCard) (faults room twice)
 unfolding numbered_spot is_numbered
 numbered-found n room twice none = refl
 numbered-found n room twice (one {ss} {vs} m start size image l) =
-    numbered-if (eqb m n) (is_numbered n vs) room twice start size (numbered_spot n ss) (numbered-found n room twice l)
+    numbered-if (eqb m n) (is_numbered n vs) room twice (span start size) (numbered_spot n ss) (numbered-found n room twice l)
 
 -- ---- a card is listed exactly if it has a version
 
@@ -104,10 +105,10 @@ module _ (file : List ℕ) (fs : List Field) (q : parsed file ≡ catalogue fs) 
   some-if true e = first_some (listed_has a (fields_of file) 0 (left_of file) fs q e)
   some-if false e = absent a fs e
 
-  pub latest-found : (room twice : Bool) → of_place (where_sound room twice (last_spot (Refused NoSuchCard) (spots_at a 0 fs))) ≡ cond (not (is_among a (addresses_of fs))) (because NoSuchCard) (faults room twice)
+  pub latest-found : (room twice : Bool) → outcome_of (where_sound room twice (last_spot (Err NoSuchCard) (spots_at a 0 fs))) ≡ cond (not (is_among a (addresses_of fs))) (because NoSuchCard) (faults room twice)
   latest-found room twice =
       last_some room twice (alike a fs 0) ∙ ap (λ (t : Bool). cond (not t) (because NoSuchCard) (faults room twice)) (some-if (is_among a (addresses_of fs)) refl)
 
 pub given-found : (a n : ℕ) (fs : List Field) (room twice : Bool)
-    → of_place (where_sound room twice (numbered_spot n (spots_at a 0 fs))) ≡ cond (not (is_numbered n (versions_at a fs))) (because NoSuchCard) (faults room twice)
+    → outcome_of (where_sound room twice (numbered_spot n (spots_at a 0 fs))) ≡ cond (not (is_numbered n (versions_at a fs))) (because NoSuchCard) (faults room twice)
 given-found a n fs room twice = numbered-found n room twice (alike a fs 0)

@@ -13,7 +13,7 @@ use Rattle.catalogue_rules.specs.declared.Turn.TheVariants.{Begun}
 use Rattle.catalogue_rules.specs.Turns.{after, is_damaged}
 use Rattle.catalogue_rules.specs.Reading.{Reading, catalogue, refused, with, is_last, ends, reading, parsed, read, judged, has_room, addresses_of, any_twice}
 use Rattle.catalogue_fits.specs.Tests.{Outcome, fine, because, first_of, check_tests}
-use Rattle.catalogue_fits.specs.Fits.{of_judged}
+use Rattle.catalogue_fits.specs.Fits.{outcome_of}
 
 -- What fields taken in turn come to.
 pub data InTurn : Reading → Type 0 where
@@ -49,11 +49,11 @@ roomy_faults g true false fs sound listed full = sound
 roomy_faults g false twice fs sound listed full = full
 
 module _ (file : List ℕ) where
-  check_in : {r : Reading} → InTurn r → parsed file ≡ r → of_judged (judged (read file)) ≡ first_of (check_tests file)
+  check_in : {r : Reading} → InTurn r → parsed file ≡ r → outcome_of (judged (read file)) ≡ first_of (check_tests file)
   unfolding read
-  check_in (whole fs) q = rw q (roomy_faults (λ r. of_judged (judged r)) (has_room fs) (any_twice (addresses_of fs)) fs refl refl refl)
+  check_in (whole fs) q = rw q (roomy_faults (λ r. outcome_of (judged r)) (has_room fs) (any_twice (addresses_of fs)) fs refl refl refl)
   check_in damaged q = rw q
   check_in early q = rw q
 
-  pub check-exactly : of_judged (judged (read file)) ≡ first_of (check_tests file)
+  pub check-exactly : outcome_of (judged (read file)) ≡ first_of (check_tests file)
   check-exactly = check_in (in_turn_lem file) refl

@@ -9,9 +9,9 @@ use borrow.Author.Tests.{leb-false, ltb-false, not-false}
 use lib.ListN.{length, length-append}
 use lib.Dec.{leb, ltb}
 use Rattle.refusal.specs.declared.Refusal.{Refusal}
+use Rattle.std.specs.Prelude.{Result, Ok, Err}
 use Rattle.refusal.specs.declared.Refusal.TheVariants.{NoPlace, NoSuchCard, ListedTwice}
-use Rattle.image_rules.specs.declared.Checked.{Checked}
-use Rattle.image_rules.specs.declared.Checked.TheVariants.{Sound, Refused}
+use Rattle.image_rules.specs.declared.Node.{Node}
 use Rattle.image_rules.specs.Image.{check_of}
 use Rattle.catalogue_rules.specs.Field.{Field, field}
 use Rattle.catalogue_rules.specs.declared.Turn.TheVariants.{Begun}
@@ -79,9 +79,9 @@ pub not-refused : (b : Bool) (why : Refusal) (c : Change) (file : List ℕ) → 
 not-refused true why c file e = let z : ◌≡◌ {A = ℕ} 0 1 = cc in absurd (omega arith)
 not-refused false why c file e = (refl, e)
 
-when_sound : (s : Checked) (c : Change) (file : List ℕ) → if_sound s c ≡ bytes file → (is_sound s ≡ true) × (c ≡ bytes file)
-when_sound (Sound p q r) c file e = (refl, e)
-when_sound (Refused why) c file e = let z : ◌≡◌ {A = ℕ} 0 1 = cc in absurd (omega arith)
+when_sound : (s : Result Node Refusal) (c : Change) (file : List ℕ) → if_sound s c ≡ bytes file → (is_sound s ≡ true) × (c ≡ bytes file)
+when_sound (Ok node) c file e = (refl, e)
+when_sound (Err why) c file e = let z : ◌≡◌ {A = ℕ} 0 1 = cc in absurd (omega arith)
 
 pub same_bytes : (x file : List ℕ) → bytes x ≡ bytes file → x ≡ file
 same_bytes x file e = cc

@@ -8,8 +8,9 @@ use native.Mathlib.Omega.{arith}
 use borrow.Author.Tests.{eqb-true, eq-eqb, ltb-false, not-false}
 use lib.ListN.{length, take, drop, length-take, length-drop}
 use lib.Dec.{eqb, ltb}
+use Rattle.std.specs.Prelude.{Ok}
 use Rattle.refusal.specs.declared.Refusal.TheVariants.{LengthOutside, ArgumentOutside, MakerWrong, ChecksumWrong, SecondaryWrong, NoPlace, ListedTwice}
-use Rattle.image_rules.specs.declared.Checked.TheVariants.{Sound}
+use Rattle.image_rules.specs.declared.Node.{Node}
 use Rattle.image_rules.specs.Image.{or_refused, word_at, checksum_of, secondary_of, check_of}
 use Rattle.catalogue_rules.specs.Field.{Field}
 use Rattle.catalogue_rules.specs.Reading.{Reading, catalogue, refused, parsed, any_twice, read, file_of}
@@ -65,23 +66,23 @@ drop_file area file a after b e =
 -- ---- an archive moved in
 
 -- An image of the right length that answers neither 8 nor 9 nor 10 is sound.
-sound-if : (long maker check second : Bool) (x y z : ℕ) → long ≡ true
-    → is_for MakerWrong (or_refused long LengthOutside (or_refused maker MakerWrong (or_refused check ChecksumWrong (or_refused second SecondaryWrong (Sound x y z))))) ≡ false
-    → is_for ChecksumWrong (or_refused long LengthOutside (or_refused maker MakerWrong (or_refused check ChecksumWrong (or_refused second SecondaryWrong (Sound x y z))))) ≡ false
-    → is_for SecondaryWrong (or_refused long LengthOutside (or_refused maker MakerWrong (or_refused check ChecksumWrong (or_refused second SecondaryWrong (Sound x y z))))) ≡ false
-    → is_sound (or_refused long LengthOutside (or_refused maker MakerWrong (or_refused check ChecksumWrong (or_refused second SecondaryWrong (Sound x y z))))) ≡ true
-sound-if false maker check second x y z l m c s = l
-sound-if true false check second x y z l m c s = absurd (true≢false m)
-sound-if true true false second x y z l m c s = absurd (true≢false c)
-sound-if true true true false x y z l m c s = absurd (true≢false s)
-sound-if true true true true x y z l m c s = refl
+sound-if : (long maker check second : Bool) (node : Node) → long ≡ true
+    → is_for MakerWrong (or_refused long LengthOutside (or_refused maker MakerWrong (or_refused check ChecksumWrong (or_refused second SecondaryWrong (Ok node))))) ≡ false
+    → is_for ChecksumWrong (or_refused long LengthOutside (or_refused maker MakerWrong (or_refused check ChecksumWrong (or_refused second SecondaryWrong (Ok node))))) ≡ false
+    → is_for SecondaryWrong (or_refused long LengthOutside (or_refused maker MakerWrong (or_refused check ChecksumWrong (or_refused second SecondaryWrong (Ok node))))) ≡ false
+    → is_sound (or_refused long LengthOutside (or_refused maker MakerWrong (or_refused check ChecksumWrong (or_refused second SecondaryWrong (Ok node))))) ≡ true
+sound-if false maker check second node l m c s = l
+sound-if true false check second node l m c s = absurd (true≢false m)
+sound-if true true false second node l m c s = absurd (true≢false c)
+sound-if true true true false node l m c s = absurd (true≢false s)
+sound-if true true true true node l m c s = refl
 
 one-sound : (image : List ℕ) → length image ≡ 128 → is_for MakerWrong (check_of image) ≡ false → is_for ChecksumWrong (check_of image) ≡ false → is_for SecondaryWrong (check_of image) ≡ false
     → is_sound (check_of image) ≡ true
 unfolding check_of
 one-sound image l m c s =
     sound-if (eqb (length image) 128) (eqb (word_at image 0x07) 0x6D50) (eqb (word_at image 0x0F) (checksum_of image)) (eqb (word_at image 0x17) (secondary_of image))
-    _ _ _ (eq-eqb (length image) 128 l) m c s
+    _ (eq-eqb (length image) 128 l) m c s
 
 sound-within : (n : ℕ) (row : List ℕ) → length row ≡ 128 * n → any_for MakerWrong (images_within n row) ≡ false → any_for ChecksumWrong (images_within n row) ≡ false
     → any_for SecondaryWrong (images_within n row) ≡ false → AllSound (images_within n row)

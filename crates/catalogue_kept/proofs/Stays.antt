@@ -4,12 +4,13 @@ use Prim.Native.Nat.{ℕ}
 use mathlib.Core.Path.{◌≡◌, refl, sym, ap, ap₂, ◌∙◌}
 use mathlib.Core.Bool.{Bool, true, false, cond, ◌&&◌, ◌||◌}
 use mathlib.Core.List.{List}
+use Rattle.std.specs.Prelude.{Result, Ok, Err}
+use Rattle.refusal.specs.declared.Refusal.{Refusal}
 use Rattle.refusal.specs.declared.Refusal.TheVariants.{NoSuchCard, NoPlace, ListedTwice}
 use Rattle.catalogue_rules.specs.Field.{Field}
 use Rattle.catalogue_rules.specs.Reading.{Reading, catalogue, refused, parsed, read, has_room, addresses_of, is_among, any_twice}
 use Rattle.catalogue_rules.specs.Cards.{versions_at}
-use Rattle.catalogue_rules.specs.declared.Place.{Place}
-use Rattle.catalogue_rules.specs.declared.Place.TheVariants.{At, Refused}
+use Rattle.catalogue_rules.specs.declared.Span.{Span}
 use Rattle.catalogue_rules.specs.Lookup.{spots_at, last_spot, where_sound, latest_in, in_override, in_main, else_main, looked_up, Shown, image, none, shown_at, shown_in}
 use Rattle.catalogue_rules.specs.Places.{last_of, numbered_in, latest_shown, lookup_shown}
 use Rattle.catalogue_rules.proofs.Shows.{sound, latest_is, places_show_lem}
@@ -22,26 +23,26 @@ guarded : Bool → Bool → Shown → Shown
 guarded room twice (image v) = cond room (cond twice (none ListedTwice) (image v)) (none NoPlace)
 guarded room twice (none why) = none why
 
-guarded_is : (own main : List ℕ) (room twice : Bool) (p : Place) → shown_in own main (in_main (where_sound room twice p)) ≡ guarded room twice (shown_at main p)
+guarded_is : (own main : List ℕ) (room twice : Bool) (p : Result Span Refusal) → shown_in own main (in_main (where_sound room twice p)) ≡ guarded room twice (shown_at main p)
 unfolding guarded
-guarded_is own main true true (At start len) = refl
-guarded_is own main true false (At start len) = refl
-guarded_is own main false twice (At start len) = refl
-guarded_is own main room twice (Refused why) = refl
+guarded_is own main true true (Ok p) = refl
+guarded_is own main true false (Ok p) = refl
+guarded_is own main false twice (Ok p) = refl
+guarded_is own main room twice (Err why) = refl
 
 main_is : (own main : List ℕ) (os ms : List Field) (b : ℕ) → read main ≡ catalogue ms
     → shown_in own main (else_main b os (parsed main)) ≡ guarded (has_room os && true) (any_twice (addresses_of os) || false) (latest_shown b main)
 unfolding else_main
 main_is own main os ms b e =
     ap (λ (r : Reading). shown_in own main (else_main b os r)) (sound main ms e).was_parsed
-    ∙ ap₂ (λ (x y : Bool). shown_in own main (in_main (where_sound (has_room os && x) (any_twice (addresses_of os) || y) (last_spot (Refused NoSuchCard) (spots_at b 0 ms))))) (sound main ms e).room (sound main ms e).apart
-    ∙ guarded_is own main (has_room os && true) (any_twice (addresses_of os) || false) (last_spot (Refused NoSuchCard) (spots_at b 0 ms))
-    ∙ ap (λ (p : Place). guarded (has_room os && true) (any_twice (addresses_of os) || false) (shown_at main p)) (sym (latest_is main ms e b))
+    ∙ ap₂ (λ (x y : Bool). shown_in own main (in_main (where_sound (has_room os && x) (any_twice (addresses_of os) || y) (last_spot (Err NoSuchCard) (spots_at b 0 ms))))) (sound main ms e).room (sound main ms e).apart
+    ∙ guarded_is own main (has_room os && true) (any_twice (addresses_of os) || false) (last_spot (Err NoSuchCard) (spots_at b 0 ms))
+    ∙ ap (λ (p : Result Span Refusal). guarded (has_room os && true) (any_twice (addresses_of os) || false) (shown_at main p)) (sym (latest_is main ms e b))
 
 -- The override's own place is in the override.
-own_alone : (own main other : List ℕ) (p : Place) → shown_in own main (in_override p) ≡ shown_in own other (in_override p)
-own_alone own main other (At start len) = refl
-own_alone own main other (Refused why) = refl
+own_alone : (own main other : List ℕ) (p : Result Span Refusal) → shown_in own main (in_override p) ≡ shown_in own other (in_override p)
+own_alone own main other (Ok p) = refl
+own_alone own main other (Err why) = refl
 
 -- ---- two sound files
 
@@ -51,7 +52,7 @@ module _ (file after : List ℕ) (fs gs : List Field) (before : read file ≡ ca
     overriding-if true main m = places_show_lem.overridden b after main gs now (lists ∙ m) ∙ same ∙ sym (places_show_lem.overridden b file main fs before m)
     overriding-if false main m = places_show_lem.main b after main gs now (lists ∙ m) ∙ sym (places_show_lem.main b file main fs before m)
 
-    either_way : (t : Bool) (own : List ℕ) (os : List Field) (p : Place)
+    either_way : (t : Bool) (own : List ℕ) (os : List Field) (p : Result Span Refusal)
         → shown_in own after (cond t (in_override p) (else_main b os (parsed after))) ≡ shown_in own file (cond t (in_override p) (else_main b os (parsed file)))
     either_way true own os p = own_alone own after file p
     either_way false own os p =

@@ -2,7 +2,7 @@
 -- Assumes nothing.
 use mathlib.Core.Path.{◌≡◌, refl, ap, sym, ◌∙◌}
 use mathlib.Core.List.{List, ◌∷◌, ◌++◌, append_assoc}
-use Prim.Native.Nat.{ℕ, suc, ◌+◌, ◌-◌, ◌/◌, ◌%◌, ◌<◌, ◌≤◌}
+use Prim.Native.Nat.{ℕ, suc, ◌+◌, ◌-◌, ◌*◌, ◌/◌, ◌%◌, ◌<◌, ◌≤◌}
 use native.Mathlib.Nat.{sub-zero, add-zero}
 use native.Mathlib.Numerals.{add-one}
 use native.Mathlib.Omega.{arith}
@@ -35,57 +35,58 @@ two-left : (b rest : List ℕ) (i x y : ℕ) → drop i b ≡ x ∷ (y ∷ rest)
 two-left b rest i x y e =
     (rw add-zero at (sym (get_or-drop i b 0 0)) ∙ ap (λ l. get_or l 0 0) e, (sym (get_or-drop i b 1 0) ∙ ap (λ l. get_or l 1 0) e, sym (drop-drop 2 i b) ∙ ap (λ l. drop 2 l) e))
 
--- a frame of n bytes is being read into an area: i bytes are there
-pub record Reading (n : ℕ) (s₀ : Adapter) (area₀ : List ℕ) (i : ℕ) (s : Adapter) (area : List ℕ) : Type 0 where
-  pub even : i < n → i % 2 ≡ 0
+-- after w words, i bytes of n are in the area: two a word, and no more than n
+abbrev Here : ℕ → ℕ → ℕ → Type 0
+Here n w i = (2 * w ≤ n → i ≡ 2 * w) × (n ≤ 2 * w → i ≡ n)
+
+-- a frame of n bytes is being read into an area: w words are there
+pub record Reading (n : ℕ) (s₀ : Adapter) (area₀ : List ℕ) (w : ℕ) (s : Adapter) (area : List ℕ) : Type 0 where
   pub size : length area ≡ length area₀
-  pub onward : after_reads ((n + 1) / 2) s₀ ≡ after_reads ((n + 1) / 2 - (i + 1) / 2) s
-  pub rest : i < n → drop i (bytes_read ((n + 1) / 2) s₀) ≡ bytes_read ((n + 1) / 2 - (i + 1) / 2) s
-  pub laid : area ≡ take i (bytes_read ((n + 1) / 2) s₀) ++ drop i area₀
+  pub onward : after_reads ((n + 1) / 2) s₀ ≡ after_reads ((n + 1) / 2 - w) s
+  pub rest : drop (2 * w) (bytes_read ((n + 1) / 2) s₀) ≡ bytes_read ((n + 1) / 2 - w) s
+  pub laid : (i : ℕ) → Here n w i → area ≡ take i (bytes_read ((n + 1) / 2) s₀) ++ drop i area₀
 
 pub reading-none : (n : ℕ) (s : Adapter) (area : List ℕ) → Reading n s area 0 s area
-reading-none n s area = record { even = λ _. refl; size = refl; onward = rw sub-zero; rest = λ _. rw sub-zero; laid = refl }
+reading-none n s area =
+    record { size = refl; onward = rw sub-zero; rest = rw sub-zero; laid = λ i h. let e : i ≡ 0 = h.0 (omega arith) in rw e }
 
-module _ (n : ℕ) (s₀ : Adapter) (area₀ : List ℕ) (i : ℕ) (s : Adapter) (area : List ℕ) (s' : Adapter) (v : ℕ)
-    (R : Reading n s₀ area₀ i s area) (more : i < n) (fits : n ≤ length area₀) (read : access (ReadWord 0) s ≡ step v s') where
-  half : (i + 1) / 2 ≡ i / 2
-  half = omega (arith, R.even more)
+module _ (n : ℕ) (s₀ : Adapter) (area₀ : List ℕ) (w : ℕ) (s : Adapter) (area : List ℕ) (s' : Adapter) (v : ℕ)
+    (R : Reading n s₀ area₀ w s area) (more : w < (n + 1) / 2) (fits : n ≤ length area₀) (read : access (ReadWord 0) s ≡ step v s') where
+  word : (after_reads ((n + 1) / 2 - w) s ≡ after_reads ((n + 1) / 2 - (w + 1)) s') × (bytes_read ((n + 1) / 2 - w) s ≡ v % 256 ∷ (v / 256 ∷ bytes_read ((n + 1) / 2 - (w + 1)) s'))
+  word = read_turn ((n + 1) / 2) w s s' v more read
 
-  word : (after_reads ((n + 1) / 2 - i / 2) s ≡ after_reads ((n + 1) / 2 - (i / 2 + 1)) s') × (bytes_read ((n + 1) / 2 - i / 2) s ≡ v % 256 ∷ (v / 256 ∷ bytes_read ((n + 1) / 2 - (i / 2 + 1)) s'))
-  word = read_turn ((n + 1) / 2) (i / 2) s s' v (omega arith) read
+  both : (get_or (bytes_read ((n + 1) / 2) s₀) (2 * w) 0 ≡ v % 256) × ((get_or (bytes_read ((n + 1) / 2) s₀) (2 * w + 1) 0 ≡ v / 256) × (drop (2 * w + 2) (bytes_read ((n + 1) / 2) s₀) ≡ bytes_read ((n + 1) / 2 - (w + 1)) s'))
+  both = two-left (bytes_read ((n + 1) / 2) s₀) _ (2 * w) _ _ (R.rest ∙ word.1)
 
-  both : (get_or (bytes_read ((n + 1) / 2) s₀) i 0 ≡ v % 256) × ((get_or (bytes_read ((n + 1) / 2) s₀) (i + 1) 0 ≡ v / 256) × (drop (i + 2) (bytes_read ((n + 1) / 2) s₀) ≡ bytes_read ((n + 1) / 2 - (i / 2 + 1)) s'))
-  both = two-left (bytes_read ((n + 1) / 2) s₀) _ i _ _ ((rw half at (R.rest more)) ∙ word.1)
+  rest : drop (2 * (w + 1)) (bytes_read ((n + 1) / 2) s₀) ≡ bytes_read ((n + 1) / 2 - (w + 1)) s'
+  rest = let e : 2 * (w + 1) ≡ 2 * w + 2 = omega arith in rw e both.1.1
 
-  low : set area i (v % 256) ≡ take (i + 1) (bytes_read ((n + 1) / 2) s₀) ++ drop (i + 1) area₀
-  low = rw R.laid (lay_more (bytes_read ((n + 1) / 2) s₀) area₀ i (v % 256) (omega (arith, read_length ((n + 1) / 2) s₀)) (omega arith) both.0)
+  low : set area (2 * w) (v % 256) ≡ take (2 * w + 1) (bytes_read ((n + 1) / 2) s₀) ++ drop (2 * w + 1) area₀
+  low = rw (R.laid (2 * w) (λ _. refl, λ h. omega arith)) (lay_more (bytes_read ((n + 1) / 2) s₀) area₀ (2 * w) (v % 256) (omega (arith, read_length ((n + 1) / 2) s₀)) (omega arith) both.0)
 
   -- the last byte of an odd length
-  pub reading-one : n ≤ i + 1 → Reading n s₀ area₀ (i + 1) s' (set area i (v % 256))
+  pub reading-one : n ≤ 2 * w + 1 → Reading n s₀ area₀ (w + 1) s' (set area (2 * w) (v % 256))
   reading-one last =
-      let e : (i + 1 + 1) / 2 ≡ i / 2 + 1 = omega (arith, R.even more) in
       record {
-        even = λ h. omega arith;
         size = simp length-set R.size;
-        onward = rw half at R.onward ∙ (word.0 ∙ rw e);
-        rest = λ h. absurd (omega arith);
-        laid = low;
+        onward = R.onward ∙ word.0;
+        rest = rest;
+        laid = λ i h. let e : i ≡ 2 * w + 1 = omega (arith, h.1 (omega arith)) in rw e low;
       }
 
-  pub reading-two : i + 1 < n → Reading n s₀ area₀ (i + 1 + 1) s' (set (set area i (v % 256)) (i + 1) (v / 256))
+  pub reading-two : 2 * w + 1 < n → Reading n s₀ area₀ (w + 1) s' (set (set area (2 * w) (v % 256)) (2 * w + 1) (v / 256))
   reading-two further =
-      let e : (i + 1 + 1 + 1) / 2 ≡ i / 2 + 1 = omega (arith, R.even more) in
-      let at : i + 2 ≡ i + 1 + 1 = omega arith in
       record {
-        even = λ h. omega (arith, R.even more);
         size = simp length-set R.size;
-        onward = rw half at R.onward ∙ (word.0 ∙ rw e);
-        rest = λ h. rw e (rw at at both.1.1);
-        laid = rw low (lay_more (bytes_read ((n + 1) / 2) s₀) area₀ (i + 1) (v / 256) (omega (arith, read_length ((n + 1) / 2) s₀)) (omega arith) both.1.0);
+        onward = R.onward ∙ word.0;
+        rest = rest;
+        laid = λ i h.
+            let e : i ≡ 2 * w + 1 + 1 = omega (arith, h.0 (omega arith)) in
+            rw (e, low) (lay_more (bytes_read ((n + 1) / 2) s₀) area₀ (2 * w + 1) (v / 256) (omega (arith, read_length ((n + 1) / 2) s₀)) (omega arith) both.1.0);
       }
 
-pub reading_all : (n : ℕ) (s₀ : Adapter) (area₀ : List ℕ) (i : ℕ) (s : Adapter) (area : List ℕ) → Reading n s₀ area₀ i s area → i ≡ n → (s ≡ after_reads ((n + 1) / 2) s₀) × (area ≡ take n (bytes_read ((n + 1) / 2) s₀) ++ drop n area₀)
+pub reading_all : (n : ℕ) (s₀ : Adapter) (area₀ : List ℕ) (w : ℕ) (s : Adapter) (area : List ℕ) → Reading n s₀ area₀ w s area → w ≡ (n + 1) / 2 → (s ≡ after_reads ((n + 1) / 2) s₀) × (area ≡ take n (bytes_read ((n + 1) / 2) s₀) ++ drop n area₀)
 unfolding after
-reading_all n s₀ area₀ i s area R e =
-    let none : (n + 1) / 2 - (i + 1) / 2 ≡ 0 = omega arith in
-    (sym (rw none at R.onward), rw e at R.laid)
+reading_all n s₀ area₀ w s area R e =
+    let none : (n + 1) / 2 - w ≡ 0 = omega arith in
+    (sym (rw none at R.onward), R.laid n (λ h. omega arith, λ _. refl))

@@ -10,7 +10,7 @@ ghost use Rattle.driver_rules.specs.Serves.{Unmoved};
 
 use crate::telling;
 use card_rules::Card;
-use driver_rules::{Answer, Driver, Served};
+use driver_rules::{Driver, Item, Served};
 use judge::sizes;
 
 // The n bytes of the oldest frame, into the front of `area`.
@@ -19,17 +19,12 @@ fn read_frame(ram: &[u8], dir: &[u16], c: Card, area: &mut [u8], n: usize) -> Ca
     ensures { Read n (view c ram.now dir.now) result ram.now dir.now area.old area.new }
 {
     let mut at = c;
-    let mut i: usize = 0;
-    while i < n {
+    for i in 0..n.div_ceil(2) {
         let w = steps::read_word(ram, dir, at, driver_rules::DATA);
-        let v = w.value;
-        let next = w.card;
-        at = next;
-        area[i] = (v % 256) as u8;
-        i += 1;
-        if i < n {
-            area[i] = (v / 256) as u8;
-            i += 1;
+        at = w.card;
+        area[2 * i] = (w.value % 256) as u8;
+        if 2 * i + 1 < n {
+            area[2 * i + 1] = (w.value / 256) as u8;
         }
     }
     at
@@ -57,16 +52,15 @@ pub fn fetch(
     requires { Ready c ram.old dir.old look.old frame.old × (n ≤ 1514) }
     ensures { Ended left (run (fetch_talk left d n) (view c ram.old dir.old)) result (view result.card ram.new dir.new) look.old frame.old look.new frame.new × (Sound result.card ram.new dir.new × Unmoved (run (fetch_talk left d n) (view c ram.old dir.old)) c result.card ram.old dir.old ram.new dir.new) }
 {
-    let cost = (n + 1) / 2 + 1;
+    let cost = n.div_ceil(2) + 1;
     if left < cost {
         return telling::short(c, d, left);
     }
-    if n <= sizes::LOOKAHEAD_AREA {
-        let read = read_frame(ram, dir, c, look, n);
-        let end = discard(ram, dir, read);
-        return telling::ended(end, d, Answer::Frame(n), left - cost);
-    }
-    let read = read_frame(ram, dir, c, frame, n);
+    let read = if n <= sizes::LOOKAHEAD_AREA {
+        read_frame(ram, dir, c, look, n)
+    } else {
+        read_frame(ram, dir, c, frame, n)
+    };
     let end = discard(ram, dir, read);
-    telling::ended(end, d, Answer::Frame(n), left - cost)
+    telling::ended(end, d, Ok(Item::Frame(n)), left - cost)
 }

@@ -7,7 +7,7 @@ ghost use Rattle.driver_rules.specs.Serves.{Unmoved};
 
 use crate::telling;
 use card_rules::Card;
-use driver_rules::{Answer, Driver, Served};
+use driver_rules::{Driver, Item, Served};
 
 // Interrupt Latch, TX Available, RX Early and Interrupt Requested.
 const ACKNOWLEDGED: u16 = 0x69;
@@ -27,5 +27,5 @@ pub fn idle(ram: &mut [u8], dir: &mut [u16], c: Card, d: Driver, left: usize) ->
         driver_rules::STATUS,
         driver_rules::ACKNOWLEDGE + ACKNOWLEDGED,
     );
-    telling::ended(end, d, Answer::Idle, left - 1)
+    telling::ended(end, d, Ok(Item::Idle), left - 1)
 }

@@ -1,36 +1,29 @@
 // What the items of a service answer and leave: a refusal for want of accesses, any other end, the report of a packet.
-ghost use Rattle.std.specs.Prelude.{◌≡◌, false};
+ghost use Rattle.std.specs.Prelude.{◌≡◌, false, Err};
 ghost use Rattle.refusal.specs.declared.Refusal.TheVariants.{BudgetShort};
-ghost use Rattle.driver_rules.specs.declared.Answer.TheVariants.{Refused};
 ghost use Rattle.driver_rules.specs.Driver.{with_error};
 ghost use Rattle.driver_rules.specs.Items.{reports};
 
 use card_rules::Card;
-use driver_rules::{Answer, Driver, Served};
+use driver_rules::{Driver, Item, Served};
 use refusal::Refusal;
 
 // Budget short: what lacks its accesses isn't begun.
 pub fn short(c: Card, d: Driver, left: usize) -> Served
-    ensures { result ≡ record { driver = d; card = c; answer = Refused BudgetShort; left = left; paused = false } }
+    ensures { result ≡ record { driver = d; card = c; answer = Err BudgetShort; left = left; paused = false } }
 {
-    Served {
-        driver: d,
-        card: c,
-        answer: Answer::Refused(Refusal::BudgetShort),
-        left: left,
-        paused: false,
-    }
+    ended(c, d, Err(Refusal::BudgetShort), left)
 }
 
 // An item has come to its end.
-pub fn ended(c: Card, d: Driver, answer: Answer, left: usize) -> Served
+pub fn ended(c: Card, d: Driver, answer: Result<Item, Refusal>, left: usize) -> Served
     ensures { result ≡ record { driver = d; card = c; answer = answer; left = left; paused = false } }
 {
     Served {
         driver: d,
         card: c,
-        answer: answer,
-        left: left,
+        answer,
+        left,
         paused: false,
     }
 }
@@ -39,12 +32,7 @@ pub fn ended(c: Card, d: Driver, answer: Answer, left: usize) -> Served
 pub fn with_error(d: Driver, error: bool) -> Driver
     ensures { result ≡ with_error error d }
 {
-    Driver {
-        opened: d.opened,
-        sent: d.sent,
-        unreported: d.unreported,
-        error: error,
-    }
+    Driver { error, ..d }
 }
 
 // The oldest unreported ticket and the status, or the status alone.
@@ -53,14 +41,12 @@ pub fn told(c: Card, d: Driver, status: u16, left: usize) -> Served
 {
     let waiting = d.unreported;
     if 0 < waiting {
-        let ticket = ((d.sent as u32 + 65536 - waiting as u32) % 65536) as u16;
+        let ticket = d.sent.wrapping_sub(u16::from(waiting));
         let next = Driver {
-            opened: d.opened,
-            sent: d.sent,
             unreported: waiting - 1,
-            error: d.error,
+            ..d
         };
-        return ended(c, next, Answer::Reported(ticket, status), left);
+        return ended(c, next, Ok(Item::Reported(ticket, status)), left);
     }
-    ended(c, d, Answer::Status(status), left)
+    ended(c, d, Ok(Item::Status(status)), left)
 }

@@ -9,33 +9,30 @@ ghost use Rattle.std.specs.Prelude.{◌≡◌};
 ghost use Rattle.catalogue_rules.specs.Reading.{parsed, judged};
 ghost use Rattle.catalogue_rules.specs.FileContracts.{Checks};
 
-use catalogue_rules::{Judged, Turn};
-pub use fields::{field_at, value_byte, value_number};
+use catalogue_rules::Counts;
+pub use fields::{field_at, part, value_byte, value_number};
 use refusal::Refusal;
 pub use search::{address_at, is_address, listed, twice};
 
 // Takes the fields of a file in their turns, up to the count: 15 or 16 where they are not in order. How many cards there are,
 // and whether one is listed twice, is not judged yet.
-pub fn parse(file: &[u8]) -> Judged
+pub fn parse(file: &[u8]) -> Result<Counts, Refusal>
     ensures { result ≡ judged (parsed file.now) }
 {
     turns::walk(file)
 }
 
 // Checks a file of any length.
-pub fn check(file: &[u8]) -> Judged
+#[tactic(auto, using(catalogue_rules::proofs::Checked::is_refused_lem, catalogue_rules::proofs::Checked::is_crowded, catalogue_rules::proofs::Checked::is_twice, catalogue_rules::proofs::Checked::is_sound))]
+pub fn check(file: &[u8]) -> Result<Counts, Refusal>
     ensures { Checks file.now result }
 {
-    match turns::walk(file) {
-        Judged::Refused(why) => Judged::Refused(why),
-        Judged::Sound { cards, fields } => {
-            if 64 < cards {
-                return Judged::Refused(Refusal::NoPlace);
-            }
-            if search::twice(file) {
-                return Judged::Refused(Refusal::ListedTwice);
-            }
-            Judged::Sound { cards, fields }
-        }
+    let counts = turns::walk(file)?;
+    if 64 < counts.cards {
+        return Err(Refusal::NoPlace);
     }
+    if search::twice(file) {
+        return Err(Refusal::ListedTwice);
+    }
+    Ok(counts)
 }

@@ -31,8 +31,8 @@ module _ (file : List ℕ) (at : ℕ) where
     pub cut_value : length file - (at + 3) < len → None ≡ found_at file at
     cut_value short = cut (is_cut (drop at file) (simp length-drop (omega (arith, len_at))))
 
-    pub found-whole : len ≤ length file - (at + 3) → {tag : ℕ} → tag ≡ get_or file at 0 → Some (found tag (at + 3) len) ≡ found_at file at
-    found-whole fits {tag} t =
+    pub found_whole : len ≤ length file - (at + 3) → {tag : ℕ} → tag ≡ get_or file at 0 → Some (found tag (at + 3) len) ≡ found_at file at
+    found_whole fits {tag} t =
         let w : is_whole (drop at file) ≡ true = is_whole_lem (drop at file) (simp length-drop (omega (arith, len_at))) in
         let z : at + 0 ≡ at = omega arith in
         let d : get_or (drop at file) 0 0 ≡ get_or file at 0 = get_or-drop at file 0 0 ∙ ap (λ (n : ℕ). get_or file n 0) z in

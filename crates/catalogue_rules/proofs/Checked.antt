@@ -71,5 +71,5 @@ module _ (file : List ℕ) where
       pub is_twice : t ≡ true → Err ListedTwice ≡ judged (read file)
       is_twice y = ap (λ (b : Bool). cond b (Err ListedTwice) (Ok (counts c k))) (sym y) ∙ both
 
-      pub is-sound : t ≡ false → Ok (counts c k) ≡ judged (read file)
-      is-sound y = ap (λ (b : Bool). cond b (Err ListedTwice) (Ok (counts c k))) (sym y) ∙ both
+      pub is_sound : t ≡ false → Ok (counts c k) ≡ judged (read file)
+      is_sound y = ap (λ (b : Bool). cond b (Err ListedTwice) (Ok (counts c k))) (sym y) ∙ both

@@ -6,7 +6,7 @@ use mathlib.Core.Bool.{Bool, true, false, cond, ◌&&◌}
 use mathlib.Core.List.{List, [], ◌∷◌}
 use native.Mathlib.Omega.{arith}
 use borrow.Author.Tests.{eq-eqb, ne_eqb}
-use lib.ListN.{length}
+use lib.ListN.{length, drop, length-drop}
 use lib.Dec.{eqb}
 use Rattle.std.specs.Prelude.{Result, Ok, Err}
 use Rattle.refusal.specs.declared.Refusal.{Refusal}
@@ -50,7 +50,7 @@ holds cards n t e =
     ap₂ (λ (x y : ℕ). Ok (counts x y)) p q ∙ ap (λ (s : Bool). behind_so cards n (judged (cond s (catalogue []) (refused FieldDamaged)))) (sym e)
 
 module _ (turn : Turn) (n cards : ℕ) (v rest : List ℕ) where
-  unended : may_end turn ≡ false → Err FieldDamaged ≡ closes turn n cards (field 4 v) rest
+  pub unended : may_end turn ≡ false → Err FieldDamaged ≡ closes turn n cards (field 4 v) rest
   unfolding closes shown
   unended m = fails cards n _ (and_no (may_end turn) _ m)
 
@@ -70,13 +70,18 @@ module _ (turn : Turn) (n cards : ℕ) (v rest : List ℕ) where
             → may_end turn && (eqb (length v) 2 && (eqb (number_at v 0) n && is_last (fields_of rest) (left_of rest))) ≡ t
         ended t e = and_yes (may_end turn) _ t m (and_yes (eqb (length v) 2) _ t (eq-eqb (length v) 2 two) (and_yes (eqb (number_at v 0) n) _ t (eq-eqb (number_at v 0) n k) e))
 
-        pub followed : 0 < length rest → Err FieldDamaged ≡ closes turn n cards (field 4 v) rest
+        followed : 0 < length rest → Err FieldDamaged ≡ closes turn n cards (field 4 v) rest
         unfolding closes shown
         followed h = fails cards n _ (ended false (some_left rest h))
 
-        pub closed : length rest ≤ 0 → Ok (counts cards n) ≡ closes turn n cards (field 4 v) rest
+        closed : length rest ≤ 0 → Ok (counts cards n) ≡ closes turn n cards (field 4 v) rest
         unfolding closes shown
         closed h = holds cards n _ (ended true (none_left rest h))
 
-pub not-ended : (turn : Turn) (n cards : ℕ) (v rest : List ℕ) → may_end turn ≡ false → Err FieldDamaged ≡ closes turn n cards (field 4 v) rest
-not-ended = unended
+-- Behind the count there is something of the file, or nothing.
+module _ (turn : Turn) (n cards : ℕ) (v file : List ℕ) (at : ℕ) (m : may_end turn ≡ true) (two : length v ≡ 2) (k : number_at v 0 ≡ n) where
+  pub followed_at : at ≤ length file → (at ≡ length file → ⊥) → Err FieldDamaged ≡ closes turn n cards (field 4 v) (drop at file)
+  followed_at within more = followed turn n cards v (drop at file) m two k (simp length-drop (omega (arith, more)))
+
+  pub closed_at : at ≡ length file → Ok (counts cards n) ≡ closes turn n cards (field 4 v) (drop at file)
+  closed_at all = closed turn n cards v (drop at file) m two k (simp length-drop (omega arith))

@@ -1,6 +1,6 @@
 -- The walk's turns over plain lists: the fields from a place on, behind those passed, always read as the whole.
 -- Assumes nothing.
-use Prim.Native.Nat.{ℕ, suc, ◌+◌}
+use Prim.Native.Nat.{ℕ, ◌≤◌, suc, ◌+◌}
 use mathlib.Core.Path.{◌≡◌, refl, sym, ap, ap₂, subst, ◌∙◌}
 use mathlib.Core.Bool.{Bool, true, false, cond}
 use mathlib.Core.List.{List, [], ◌∷◌}
@@ -8,6 +8,7 @@ use native.Mathlib.Omega.{arith}
 use borrow.Author.Tests.{ne_eqb}
 use lib.ListN.{length}
 use lib.Dec.{eqb}
+use mir.Val.{bool_byte}
 use Rattle.std.specs.Prelude.{Result, Ok, Err}
 use Rattle.refusal.specs.declared.Refusal.{Refusal}
 use Rattle.catalogue_rules.specs.declared.Counts.{Counts}
@@ -22,6 +23,15 @@ use Rattle.catalogue_rules.specs.FileWalk.{behind_so, closes, one_if}
 pub at_start : (j : Result Counts Refusal) → behind_so 0 0 j ≡ j
 at_start (Ok told) = let p : 0 + told.cards ≡ told.cards = omega arith in let q : 0 + told.fields ≡ told.fields = omega arith in ap₂ (λ (x y : ℕ). Ok (counts x y)) p q
 at_start (Err why) = refl
+
+-- A test as a number.
+pub one_byte : {n : ℕ} (b : Bool) → n ≡ bool_byte b → n ≡ one_if b
+one_byte true e = e
+one_byte false e = e
+
+pub one_most : {n : ℕ} (b : Bool) → n ≡ bool_byte b → n ≤ 1
+one_most true e = omega arith
+one_most false e = omega arith
 
 pub one_more : (t : Bool) (a : ℕ) (l : List ℕ) → length (cond t (a ∷ l) l) ≡ one_if t + length l
 one_more true a l = omega arith

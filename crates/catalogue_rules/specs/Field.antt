@@ -57,6 +57,10 @@ left_of bytes = left_within (length bytes) bytes
 abbrev pub found : ℕ → ℕ → ℕ → Found
 found t s k = record { tag = t; start = s; len = k }
 
+-- The value of a field that stands in a file.
+abbrev pub value_at : List ℕ → Found → List ℕ
+value_at file f = take f.len (drop f.start file)
+
 -- What stands at a place of a file: a whole field, with the place and the length of its value, or none.
 abbrev pub found_if : Bool → List ℕ → ℕ → Option Found
 found_if true bytes at = Some (found (get_or bytes 0 0) (at + 3) (number_at bytes 1))

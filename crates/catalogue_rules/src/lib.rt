@@ -1,6 +1,16 @@
 #![tactic(auto)]
 // The catalogue: tagged fields, a file's meaning and its check, the round trips, looking cards up, archives, the changes, and what a change writes.
 
+// The tags that are known; a file may have others too.
+// A card's node address, a version's number, its image, and the count of the fields.
+pub const ADDRESS: u8 = 1;
+
+pub const NUMBER: u8 = 2;
+
+pub const IMAGE: u8 = 3;
+
+pub const COUNT: u8 = 4;
+
 // A whole field of a file: its value has `len` bytes from `start` on.
 #[derive(Clone, Copy)]
 pub struct Found {

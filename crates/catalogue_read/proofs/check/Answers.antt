@@ -1,20 +1,11 @@
--- `catalogue_read::check` meets its contract: what the walk found, then the number of cards, then addresses listed twice.
+-- `catalogue_read::check` meets its contract: a file whose fields are not in turn is refused as the walk refused it.
 -- Assumes nothing.
 use mathlib.Core.Path.{sym, ◌∙◌}
-use Rattle.catalogue_rules.proofs.Checked.{is_refused_lem, is_crowded, is_twice, is-sound}
+use Rattle.std.proofs.lemmas.Result.{err_from_is_err_and}
+use Rattle.catalogue_rules.proofs.Checked.{is_refused_lem}
 use Rattle.catalogue_read.proofs.check.Goals as goal
 
-pub returns-then-cards-gt64 : goal.returns-then-cards-gt64
-returns-then-cards-gt64 c =
-    is_crowded c.args.file.now _ _ (sym c.in-Sound.is ∙ c.walk.ensures) c.if-cards-gt64.true
-
-pub returns-then-twice : goal.returns-then-twice
-returns-then-twice c =
-    is_twice c.args.file.now _ _ (sym c.in-Sound.is ∙ c.walk.ensures) c.if-cards-gt64.false c.twice.ensures c.if-twice.true
-
-pub returns-in-Refused : goal.returns-in-Refused
-returns-in-Refused c = is_refused_lem c.args.file.now _ (sym c.in-Refused.is ∙ c.walk.ensures)
-
-pub returns-else-twice : goal.returns-else-twice
-returns-else-twice c =
-    is-sound c.args.file.now _ _ (sym c.in-Sound.is ∙ c.walk.ensures) c.if-cards-gt64.false c.twice.ensures c.if-twice.false
+pub returns-in_err-counts : goal.returns-in_err-counts
+returns-in_err-counts c =
+    let p = err_from_is_err_and c.from_residual.result c.from_residual.ensures.1 in
+    rw (p.1, p.2) (is_refused_lem c.args.file.now _ (sym c.in_err-counts.was ∙ c.walk.ensures))

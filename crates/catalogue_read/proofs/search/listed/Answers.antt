@@ -8,22 +8,22 @@ use Rattle.catalogue_rules.proofs.At.{stands, stops}
 use Rattle.catalogue_rules.proofs.Seen.{among_hit, among_on, among_none}
 use Rattle.catalogue_read.proofs.search.listed.Goals as goal
 
-pub returns-in-Cut : goal.returns-in-Cut
-returns-in-Cut c =
-    among_none (drop c.loop-tag.at c.args.file.now) c.args.address (stops {file = c.args.file.now} {at = c.loop-tag.at} (sym c.in-Cut.is ∙ c.field_at.ensures)).none c.loop-tag.invariant
+pub returns : goal.returns
+returns c =
+    among_none (drop c.loop-f.at c.args.file.now) c.args.address (stops {file = c.args.file.now} {at = c.loop-f.at} (sym c.in_default.is ∙ c.field_at.ensures)).none c.loop-f.invariant
 
 pub returns-then-is_address : goal.returns-then-is_address
 returns-then-is_address c =
-    among_hit (drop c.loop-tag.at c.args.file.now) _ _ _ (stands {file = c.args.file.now} {at = c.loop-tag.at} (sym c.in-Whole.is ∙ c.field_at.ensures)).is_first c.args.address c.is_address.ensures c.loop-tag.invariant c.if-is_address.true
+    among_hit (drop c.loop-f.at c.args.file.now) _ _ _ (stands {file = c.args.file.now} {at = c.loop-f.at} (sym c.in-Some.is ∙ c.field_at.ensures)).is_first c.args.address c.is_address.ensures c.loop-f.invariant c.if-is_address.true
 
 pub overflow_add-at : goal.overflow_add-at
 overflow_add-at c =
-    omega (arith, (stands {file = c.args.file.now} {at = c.loop-tag.at} (sym c.in-Whole.is ∙ c.field_at.ensures)).fits)
+    omega (arith, (stands {file = c.args.file.now} {at = c.loop-f.at} (sym c.in-Some.is ∙ c.field_at.ensures)).fits)
 
-pub loop-tag-smaller : goal.loop-tag-smaller
-loop-tag-smaller c =
-    omega (arith, (stands {file = c.args.file.now} {at = c.loop-tag.at} (sym c.in-Whole.is ∙ c.field_at.ensures)).fits, (stands {file = c.args.file.now} {at = c.loop-tag.at} (sym c.in-Whole.is ∙ c.field_at.ensures)).behind_head)
+pub loop-f-smaller : goal.loop-f-smaller
+loop-f-smaller c =
+    omega (arith, (stands {file = c.args.file.now} {at = c.loop-f.at} (sym c.in-Some.is ∙ c.field_at.ensures)).fits, (stands {file = c.args.file.now} {at = c.loop-f.at} (sym c.in-Some.is ∙ c.field_at.ensures)).behind_head)
 
-pub loop-tag-preserved : goal.loop-tag-preserved
-loop-tag-preserved c =
-    among_on (drop c.loop-tag.at c.args.file.now) _ _ _ (stands {file = c.args.file.now} {at = c.loop-tag.at} (sym c.in-Whole.is ∙ c.field_at.ensures)).is_first c.args.address c.is_address.ensures c.loop-tag.invariant c.if-is_address.false
+pub loop-f-preserved : goal.loop-f-preserved
+loop-f-preserved c =
+    among_on (drop c.loop-f.at c.args.file.now) _ _ _ (stands {file = c.args.file.now} {at = c.loop-f.at} (sym c.in-Some.is ∙ c.field_at.ensures)).is_first c.args.address c.is_address.ensures c.loop-f.invariant c.if-is_address.false

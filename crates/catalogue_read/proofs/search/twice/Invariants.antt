@@ -8,8 +8,8 @@ use Rattle.catalogue_rules.specs.Field.{fields_of}
 use Rattle.catalogue_rules.specs.Reading.{addresses_of, any_twice}
 use Rattle.catalogue_read.proofs.search.twice.Given as goal
 
-abbrev pub invariant-loop-tag : goal.invariant-loop-tag
-invariant-loop-tag l = any_twice (addresses_of (fields_of (drop l.at l.file))) ≡ any_twice (addresses_of (fields_of l.file))
+abbrev pub invariant-loop-f : goal.invariant-loop-f
+invariant-loop-f l = any_twice (addresses_of (fields_of (drop l.at l.file))) ≡ any_twice (addresses_of (fields_of l.file))
 
-abbrev pub decreases-loop-tag : goal.decreases-loop-tag
-decreases-loop-tag l = length l.file - l.at
+abbrev pub decreases-loop-f : goal.decreases-loop-f
+decreases-loop-f l = length l.file - l.at

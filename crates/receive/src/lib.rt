@@ -1,5 +1,7 @@
 #![tactic(auto)]
 // The receive side, as functions.
+ghost use Rattle.std.specs.Prelude.{◌≡◌};
+ghost use Rattle.receive_rules.specs.View.{rx_area};
 
 pub mod reading; // reading.rt: what the host reads of the receive side, and the commands that drop frames: the unread bytes, RX Status, RX Complete, RX Free, the data read, RX Discard
 pub mod sound; // sound.rt: the receive side of the card: its registers, the frames stored, RX Early, and the test of its soundness
@@ -7,10 +9,23 @@ pub mod wire; // wire.rt: the wire: a frame's start with its first 8 bytes, its 
 
 pub use reading::{deafen, discard, read_data, rx_complete, rx_free, rx_status, unread};
 pub use sound::{early_settled, rx_sound, settle_early};
+use store::Area;
 pub use wire::{passes_filter, wire_byte, wire_end, wire_start};
 
 // The directory words of the receive area: one for each frame.
 const SLOTS: usize = 768;
+
+// The receive area: the first `size` bytes of the memory, and the first words of the directory.
+fn area(size: usize) -> Area
+    ensures { result ≡ rx_area size }
+{
+    Area {
+        base: 0,
+        size,
+        first: 0,
+        slots: SLOTS,
+    }
+}
 
 // A directory word from here on: the frame is still coming (bit 15).
 const COMING: u16 = 32768;

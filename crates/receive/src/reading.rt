@@ -6,22 +6,18 @@ ghost use Rattle.receive_rules.specs.Count.{encoded as encoded_of};
 ghost use Rattle.receive_rules.specs.Reading.{unread_in, rx_status, complete, rx_free, oldest, pad_in, left_in, data_word, after_read, discard as discard_of, deafened};
 ghost use Rattle.receive_rules.specs.View.{rx_area, frames_of, rx_of, Sound, Step};
 
-use crate::{COMING, SLOTS};
+use crate::{COMING, area};
 use receive_rules::Receive;
-use store::Area;
 
 // The unread bytes of the oldest frame: stored less read, below 0 once pad has been read.
 pub fn unread(ram: &[u8], dir: &[u16], size: usize, r: Receive) -> i16
     requires { Sound size r ram.now dir.now }
     ensures { result ≡ unread_in r.receiver.read (frames_of size r.frames ram.now dir.now) }
 {
-    let count = r.frames;
-    if count == 0 {
+    if r.frames == 0 {
         return 0;
     }
-    let stored = (dir[0] % 2048) as i16;
-    let read = r.receiver.read as i16;
-    stored - read
+    (dir[0] % 2048) as i16 - r.receiver.read as i16
 }
 
 // Bits 10-0 of RX Status: the count in two's complement.
@@ -40,8 +36,7 @@ pub fn rx_status(ram: &[u8], dir: &[u16], size: usize, r: Receive) -> u16
     requires { Sound size r ram.now dir.now }
     ensures { result ≡ rx_status r.receiver.read (frames_of size r.frames ram.now dir.now) }
 {
-    let count = r.frames;
-    if count == 0 {
+    if r.frames == 0 {
         return COMING;
     }
     let w = dir[0];
@@ -60,12 +55,10 @@ pub fn rx_complete(ram: &[u8], dir: &[u16], size: usize, r: Receive) -> bool
     requires { Sound size r ram.now dir.now }
     ensures { result ≡ complete (frames_of size r.frames ram.now dir.now) }
 {
-    let count = r.frames;
-    if count == 0 {
+    if r.frames == 0 {
         return false;
     }
-    let w = dir[0];
-    !(COMING <= w)
+    dir[0] < COMING
 }
 
 // RX Free: the room that no stored frame takes.
@@ -73,8 +66,7 @@ pub fn rx_free(ram: &[u8], dir: &[u16], size: usize, r: Receive) -> usize
     requires { Sound size r ram.now dir.now }
     ensures { result ≡ rx_free size (frames_of size r.frames ram.now dir.now) }
 {
-    let count = r.frames;
-    size - store::used(dir, 0, count)
+    size - store::used(dir, 0, r.frames)
 }
 
 // A byte of the oldest frame, or 0 past its end.
@@ -82,17 +74,11 @@ fn oldest_byte(ram: &[u8], dir: &[u16], size: usize, count: usize, i: usize) -> 
     requires { store.Sound (rx_area size) count ram.now dir.now × (0 < count) }
     ensures { (result ≡ get_or (oldest (frames_of size count ram.now dir.now)) i 0) × (result < 256) }
 {
-    let a = Area {
-        base: 0,
-        size: size,
-        first: 0,
-        slots: SLOTS,
-    };
     let n = (dir[0] % 2048) as usize;
     if n <= i {
         return 0;
     }
-    bits::wide(store::first_byte(ram, dir, a, count, i))
+    bits::wide(store::first_byte(ram, dir, area(size), count, i))
 }
 
 // The pad of the oldest frame, up to a length rounded to 4; none until its end.
@@ -104,8 +90,8 @@ fn pad(ram: &[u8], dir: &[u16], size: usize, count: usize) -> u16
         return 0;
     }
     let w = dir[0];
-    let n = w % 2048;
     if w < COMING {
+        let n = w % 2048;
         return (n + 3) / 4 * 4 - n;
     }
     0
@@ -116,10 +102,7 @@ fn left(ram: &[u8], dir: &[u16], size: usize, r: Receive) -> i16
     requires { Sound size r ram.now dir.now }
     ensures { result ≡ left_in (rx_of size r ram.now dir.now) }
 {
-    let count = r.frames;
-    let unread = unread(ram, dir, size, r);
-    let pad = pad(ram, dir, size, count) as i16;
-    unread + pad
+    unread(ram, dir, size, r) + pad(ram, dir, size, r.frames) as i16
 }
 
 // What a data read gives: the word, and the registers after it.
@@ -130,70 +113,53 @@ pub struct Got {
 }
 
 // A data read takes a word. With fewer than two bytes left it is a receive failure, and while that stands it gives 0 and moves nothing.
-pub fn read_data(ram: &[u8], dir: &[u16], size: usize, r: Receive) -> Got
+pub fn read_data(ram: &[u8], dir: &[u16], size: usize, mut r: Receive) -> Got
     requires { Sound size r ram.now dir.now }
     ensures { (result.word ≡ data_word (rx_of size r ram.now dir.now)) × Step size result.receive ram.now dir.now ram.now dir.now (after_read (rx_of size r ram.now dir.now)) }
 {
-    let a = r.receiver;
-    if a.failed {
+    if r.receiver.failed {
         return Got {
             word: 0,
             receive: r,
         };
     }
-    let count = r.frames;
     let left = left(ram, dir, size, r);
-    let mut next = r;
     if left < 2 {
-        next.receiver.failed = true;
+        r.receiver.failed = true;
         return Got {
             word: 0,
-            receive: next,
+            receive: r,
         };
     }
-    let read = a.read;
-    let end = read + 2;
-    let at = read as usize;
-    let low = oldest_byte(ram, dir, size, count, at);
-    let high = oldest_byte(ram, dir, size, count, at + 1);
-    next.receiver.read = end;
+    let at = r.receiver.read as usize;
+    let low = oldest_byte(ram, dir, size, r.frames, at);
+    let high = oldest_byte(ram, dir, size, r.frames, at + 1);
+    r.receiver.read += 2;
     Got {
         word: low + 256 * high,
-        receive: next,
+        receive: r,
     }
 }
 
 // RX Discard: the oldest frame leaves; of an unfinished one the rest is ignored too.
-pub fn discard(ram: &mut [u8], dir: &mut [u16], size: usize, r: Receive) -> Receive
+pub fn discard(ram: &mut [u8], dir: &mut [u16], size: usize, mut r: Receive) -> Receive
     requires { Sound size r ram.old dir.old }
     ensures { Step size result ram.old dir.old ram.new dir.new (discard_of (rx_of size r ram.old dir.old)) }
 {
-    if r.receiver.failed {
+    if r.receiver.failed | (r.frames == 0) {
         return r;
     }
-    let count = r.frames;
-    if count == 0 {
-        return r;
-    }
-    let a = Area {
-        base: 0,
-        size: size,
-        first: 0,
-        slots: SLOTS,
-    };
     let w = dir[0];
-    store::drop_first(ram, dir, a, count);
-    let rest = count - 1;
-    let mut next = r;
-    next.frames = rest;
-    next.receiver.early = false;
-    next.receiver.told = false;
-    next.receiver.read = 0;
+    store::drop_first(ram, dir, area(size), r.frames);
+    r.frames -= 1;
+    r.receiver.early = false;
+    r.receiver.told = false;
+    r.receiver.read = 0;
     if COMING <= w {
-        next.receiver.wire = 1;
-        return next;
+        r.receiver.wire = 1;
+        return r;
     }
-    next
+    r
 }
 
 // The rest of a begun frame is ignored.

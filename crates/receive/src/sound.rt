@@ -10,25 +10,21 @@ use crate::{COMING, EARLY_LEAST, LONGEST, SLOTS};
 use receive_rules::{Receive, Receiver};
 
 // RX Early, at the end of every step.
-pub fn settle_early(ram: &[u8], dir: &[u16], size: usize, r: Receive) -> Receive
+pub fn settle_early(ram: &[u8], dir: &[u16], size: usize, mut r: Receive) -> Receive
     requires { Packed size r ram.now dir.now }
     ensures { Step size result ram.now dir.now ram.now dir.now (settle_early (rx_of size r ram.now dir.now)) }
 {
-    let mut next = r;
-    let count = r.frames;
-    if count == 0 {
-        next.receiver.early = false;
-        next.receiver.told = false;
-        return next;
+    if r.frames == 0 {
+        r.receiver.early = false;
+        r.receiver.told = false;
+        return r;
     }
     let w = dir[0];
     let coming = COMING <= w;
     let due = (r.receiver.threshold <= w % 2048) & !r.receiver.told;
-    let early = coming & (due | r.receiver.early);
-    let told = coming & (due | r.receiver.told);
-    next.receiver.early = early;
-    next.receiver.told = told;
-    next
+    r.receiver.early = coming & (due | r.receiver.early);
+    r.receiver.told = coming & (due | r.receiver.told);
+    r
 }
 
 // The bytes that may be read of the oldest frame.
@@ -52,15 +48,7 @@ fn all_ended(dir: &[u16], count: usize) -> bool
     requires { count ≤ length dir.now }
     ensures { result ≡ all_ended (store.part 0 count dir.now) }
 {
-    let mut good = true;
-    let mut i: usize = 0;
-    while i < count {
-        let w = dir[i];
-        let n = w % 2048;
-        good = good & ((8 <= n) & (n <= LONGEST) & !(COMING <= w));
-        i += 1;
-    }
-    good
+    dir[..count].iter().all(|w| (8 <= w % 2048) & (w % 2048 <= LONGEST) & (*w < COMING))
 }
 
 // Whether only the newest frame is coming, and it is just while the wire stores it.
@@ -99,6 +87,7 @@ pub fn rx_sound(ram: &[u8], dir: &[u16], size: usize, r: Receive) -> bool
     requires { (size ≤ 6144) × (6144 ≤ length ram.now) × (768 ≤ length dir.now) }
     ensures { result ≡ sound_side size r ram.now dir.now }
 {
+    let a = r.receiver;
     let count = r.frames;
     if SLOTS < count {
         return false;
@@ -106,12 +95,10 @@ pub fn rx_sound(ram: &[u8], dir: &[u16], size: usize, r: Receive) -> bool
     if size < store::used(dir, 0, count) {
         return false;
     }
-    let a = r.receiver;
-    let wire = a.wire;
-    let ordered = in_order(ram, dir, size, count, wire == 2);
+    let ordered = in_order(ram, dir, size, count, a.wire == 2);
     let have = readable_bytes(ram, dir, size, count);
     let settled = early_settled(ram, dir, size, count, a);
-    (wire <= 2)
+    (a.wire <= 2)
         & ordered
         & (a.read <= have)
         & ((EARLY_LEAST <= a.threshold) & (a.threshold <= 2047))

@@ -6,20 +6,14 @@ ghost use Rattle.receive_rules.specs.Wire.{address, passes, wire_start, fits, ta
 ghost use Rattle.receive_rules.specs.Sound.{in_order};
 ghost use Rattle.receive_rules.specs.View.{state_of, rx_area, frames_of, rx_of, Sound, Turns, Step};
 
-use crate::{LONGEST, OVERRUN, SLOTS};
+use crate::{LONGEST, OVERRUN, area};
 use receive_rules::Receive;
-use store::Area;
 
 // Whether the first six bytes are an address.
 fn addressed(first: [u8; 8], a: [u8; 6]) -> bool
     ensures { result ≡ address a first }
 {
-    (first[0] == a[0])
-        & (first[1] == a[1])
-        & (first[2] == a[2])
-        & (first[3] == a[3])
-        & (first[4] == a[4])
-        & (first[5] == a[5])
+    first[..6] == a[..]
 }
 
 // Whether the filter takes a frame with these first bytes.
@@ -37,32 +31,24 @@ pub fn wire_start(
     ram: &mut [u8],
     dir: &mut [u16],
     size: usize,
-    r: Receive,
+    mut r: Receive,
     taken: bool,
     first: [u8; 8],
 ) -> Receive
     requires { Sound size r ram.old dir.old × (r.receiver.wire ≡ 0) }
     ensures { Step size result ram.old dir.old ram.new dir.new (wire_start size taken first (rx_of size r ram.old dir.old)) }
 {
-    let mut next = r;
-    let count = r.frames;
-    let used = store::used(dir, 0, count);
+    let used = store::used(dir, 0, r.frames);
     if taken & (r.receiver.on & (used + 8 <= size)) {
-        let a = Area {
-            base: 0,
-            size: size,
-            first: 0,
-            slots: SLOTS,
-        };
-        let n = count + 1;
-        store::begin(ram, dir, a, count, 16);
-        store::append_bytes(ram, dir, a, n, used, &first);
-        next.receiver.wire = 2;
-        next.frames = n;
-        return next;
+        let a = area(size);
+        store::begin(ram, dir, a, r.frames, 16);
+        r.frames += 1;
+        store::append_bytes(ram, dir, a, r.frames, used, &first);
+        r.receiver.wire = 2;
+        return r;
     }
-    next.receiver.wire = 1;
-    next
+    r.receiver.wire = 1;
+    r
 }
 
 // A byte for the newest frame, which is coming: dropped after an overrun and past 1,792; without room it marks the frame.
@@ -70,12 +56,7 @@ fn store_byte(ram: &mut [u8], dir: &mut [u16], size: usize, count: usize, b: u8)
     requires { store.Sound (rx_area size) count ram.old dir.old × (0 < count) × (size ≤ 6144) × (in_order true (frames_of size count ram.old dir.old) ≡ true) }
     ensures { Turns size ram.old dir.old ram.new dir.new count (at_newest (takes b (fits size b (frames_of size count ram.old dir.old))) (frames_of size count ram.old dir.old)) }
 {
-    let a = Area {
-        base: 0,
-        size: size,
-        first: 0,
-        slots: SLOTS,
-    };
+    let a = area(size);
     let last = dir[count - 1];
     let n = (last % 2048) as usize;
     if (OVERRUN <= last) | (LONGEST <= last % 2048) {
@@ -127,26 +108,24 @@ pub fn wire_end(
     ram: &[u8],
     dir: &mut [u16],
     size: usize,
-    r: Receive,
+    mut r: Receive,
     check: bool,
     alignment: bool,
 ) -> Receive
     requires { Sound size r ram.now dir.old }
     ensures { Step size result ram.now dir.old ram.now dir.new (wire_end check alignment (rx_of size r ram.now dir.old)) }
 {
-    let mut next = r;
-    next.receiver.wire = 0;
-    if r.receiver.wire != 2 {
-        return next;
+    let stored = r.receiver.wire == 2;
+    r.receiver.wire = 0;
+    if stored {
+        let last = dir[r.frames - 1];
+        store::set_head(
+            ram,
+            dir,
+            area(size),
+            r.frames,
+            end_head(last, check, alignment),
+        );
     }
-    let a = Area {
-        base: 0,
-        size: size,
-        first: 0,
-        slots: SLOTS,
-    };
-    let count = r.frames;
-    let last = dir[count - 1];
-    store::set_head(ram, dir, a, count, end_head(last, check, alignment));
-    next
+    r
 }

@@ -37,18 +37,18 @@ module _ (u : ℤ) (p : ℕ) (f : SFits w16 u) (s : mag u < 2048) (l : p < 4) wh
 few : (size : ℕ) (r : Receive) (ram dir : List ℕ) → Sound size r ram dir → (u : ℤ) → u ≡ unread_in r.receiver.read (frames_of size r.frames ram dir) → mag u < 2048
 few size r ram dir S u e = subst (λ (z : ℤ). mag z < 2048) (sym e) (between-small _ (count-between size (rx_of size r ram dir) S.calm))
 
-pub pad-pad-requires : goal.pad-pad-requires
-pad-pad-requires c = c.requires.packed
+pub pad-requires : goal.pad-requires
+pad-requires c = c.requires.packed
 
 pub overflow_add-result : goal.overflow_add-result
 overflow_add-result c =
     let s = c.args in
-    let u = c.unread-unread in
-    fits u.result c.pad-pad.result (record { sfits = u.type_inv }) (few s.size s.r s.ram.now s.dir.now c.requires u.result u.ensures) c.pad-pad.ensures.1
+    let u = c.unread in
+    fits u.result c.pad.result (record { sfits = u.type_inv }) (few s.size s.r s.ram.now s.dir.now c.requires u.result u.ensures) c.pad.ensures.1
 
 pub returns : goal.returns
 returns c =
     let s = c.args in
-    let u = c.unread-unread in
-    whole u.result c.pad-pad.result (record { sfits = u.type_inv }) (few s.size s.r s.ram.now s.dir.now c.requires u.result u.ensures) c.pad-pad.ensures.1
-    ∙ (λ i. u.ensures i +ℤ pos (c.pad-pad.ensures.0 i))
+    let u = c.unread in
+    whole u.result c.pad.result (record { sfits = u.type_inv }) (few s.size s.r s.ram.now s.dir.now c.requires u.result u.ensures) c.pad.ensures.1
+    ∙ (λ i. u.ensures i +ℤ pos (c.pad.ensures.0 i))

@@ -11,11 +11,11 @@ use Rattle.receive_rules.proofs.Steps.{step_same}
 use Rattle.receive.proofs.Word.{readable-small, readable_there}
 use Rattle.receive.proofs.reading.read_data.Goals as goal
 
-pub returns-then-a : goal.returns-then-a
+pub returns-then-r : goal.returns-then-r
 unfolding data_word after_read
-returns-then-a c =
+returns-then-r c =
     let s = c.args in
-    (rw c.if-a.true, step_same s.size _ s.ram.now s.dir.now _ c.requires.packed (rw c.if-a.true))
+    (rw c.if-r.true, step_same s.size _ s.ram.now s.dir.now _ c.requires.packed (rw c.if-r.true))
 
 pub returns-then-left-lt2 : goal.returns-then-left-lt2
 unfolding data_word after_read
@@ -23,10 +23,10 @@ returns-then-left-lt2 c =
     let s = c.args in
     let l = c.left-left in
     let t = (sym (ap (λ (v : ℤ). lt_z v (pos 2)) (back l.result l.type_inv ∙ l.ensures)) ∙ c.if-left-lt2.true) in
-    (rw (c.if-a.false, t), step_same s.size _ s.ram.now s.dir.now _ c.requires.packed (rw (c.if-a.false, t)))
+    (rw (c.if-r.false, t), step_same s.size _ s.ram.now s.dir.now _ c.requires.packed (rw (c.if-r.false, t)))
 
-pub overflow_add-end : goal.overflow_add-end
-overflow_add-end c =
+pub overflow_add-r : goal.overflow_add-r
+overflow_add-r c =
     let s = c.args in
     let l = c.left-left in
     omega (arith, (ltb-false _ _ (sym (beyond_is ((rx_of c.args.size c.args.r c.args.ram.now c.args.dir.now))) ∙ ((sym (ap (λ (v : ℤ). lt_z v (pos 2)) (back l.result l.type_inv ∙ l.ensures)) ∙ c.if-left-lt2.false)))), readable-small s.size s.r.frames s.ram.now s.dir.now c.requires.packed)
@@ -49,4 +49,4 @@ returns c =
     let s = c.args in
     let l = c.left-left in
     let t = (sym (ap (λ (v : ℤ). lt_z v (pos 2)) (back l.result l.type_inv ∙ l.ensures)) ∙ c.if-left-lt2.false) in
-    (rw (c.if-a.false, t) (omega (arith, c.oldest_byte-low.ensures.0, c.oldest_byte-high.ensures.0)), step_same s.size _ s.ram.now s.dir.now _ c.requires.packed (rw (c.if-a.false, t)))
+    (rw (c.if-r.false, t) (omega (arith, c.oldest_byte-low.ensures.0, c.oldest_byte-high.ensures.0)), step_same s.size _ s.ram.now s.dir.now _ c.requires.packed (rw (c.if-r.false, t)))

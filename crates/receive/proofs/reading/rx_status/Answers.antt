@@ -21,9 +21,9 @@ shown : (size : ℕ) (r : Receive) (ram dir : List ℕ) → Sound size r ram dir
     → u ≡ unread_in r.receiver.read (frames_of size r.frames ram dir) → told ≡ encoded (unread (get_or dir 0 0 % 2048) r.receiver.read)
 shown size r ram dir S h told u e f = e ∙ ap encoded (f ∙ unread-some size r.frames ram dir S.packed h r.receiver.read)
 
-pub returns-then-count-eq0 : goal.returns-then-count-eq0
+pub returns-then-r-eq0 : goal.returns-then-r-eq0
 unfolding rx_status
-returns-then-count-eq0 c = rw (none _ _ _ _ c.if-count-eq0.true)
+returns-then-r-eq0 c = rw (none _ _ _ _ c.if-r-eq0.true)
 
 pub encoded-told-requires : goal.encoded-told-requires
 encoded-told-requires c =
@@ -35,7 +35,7 @@ overflow_add-result c = omega (arith, c.encoded-told.ensures.1)
 
 pub returns-then-w-ge-COMING : goal.returns-then-w-ge-COMING
 returns-then-w-ge-COMING c =
-    let h = c.if-count-eq0.false in
+    let h = c.if-r-eq0.false in
     let s = c.args in
     rw (status-some s.size s.r.frames s.ram.now s.dir.now c.requires.packed h s.r.receiver.read, marks-coming _ c.if-w-ge-COMING.true)
     (ap (λ (k : ℕ). 32768 + k) (shown s.size s.r s.ram.now s.dir.now c.requires h _ _ c.encoded-told.ensures.0 (back c.unread.result c.unread.type_inv ∙ c.unread.ensures)))
@@ -45,7 +45,7 @@ overflow_add-result-then-w-ge16384 c = omega (arith, c.encoded-told.ensures.1, c
 
 pub returns-then-w-ge16384 : goal.returns-then-w-ge16384
 returns-then-w-ge16384 c =
-    let h = c.if-count-eq0.false in
+    let h = c.if-r-eq0.false in
     let s = c.args in
     let w : ℕ = get_or s.dir.now 0 0 in
     rw (status-some s.size s.r.frames s.ram.now s.dir.now c.requires.packed h s.r.receiver.read, marks-damaged _ c.if-w-ge-COMING.false c.if-w-ge16384.true)
@@ -53,7 +53,7 @@ returns-then-w-ge16384 c =
 
 pub returns : goal.returns
 returns c =
-    let h = c.if-count-eq0.false in
+    let h = c.if-r-eq0.false in
     let s = c.args in
     rw (status-some s.size s.r.frames s.ram.now s.dir.now c.requires.packed h s.r.receiver.read, marks-whole _ c.if-w-ge16384.false, zero-add)
     (shown s.size s.r s.ram.now s.dir.now c.requires h _ _ c.encoded-told.ensures.0 (back c.unread.result c.unread.type_inv ∙ c.unread.ensures))

@@ -29,21 +29,21 @@ module _ (n r : ℕ) (l : n < 2048) (m : r ≤ n + 3) where
   fits : SFits w16 (to_z w16 n -ℤ to_z w16 r)
   fits = subst (SFits w16) (sym apart) (record { sfits = omega (arith, unread-small n r l m) })
 
-pub returns-then-count-eq0 : goal.returns-then-count-eq0
-returns-then-count-eq0 c = rw (none _ _ _ _ c.if-count-eq0.true) refl
+pub returns-then-r-eq0 : goal.returns-then-r-eq0
+returns-then-r-eq0 c = rw (none _ _ _ _ c.if-r-eq0.true) refl
 
-pub overflow_cast-read : goal.overflow_cast-read
-overflow_cast-read c =
+pub overflow_cast-result-2 : goal.overflow_cast-result-2
+overflow_cast-result-2 c =
     let s = c.args in
-    record { sfits = omega (arith, few s.size s.r s.ram.now s.dir.now c.requires c.if-count-eq0.false) }
+    record { sfits = omega (arith, few s.size s.r s.ram.now s.dir.now c.requires c.if-r-eq0.false) }
 
 pub overflow_sub-result : goal.overflow_sub-result
 overflow_sub-result c =
     let s = c.args in
-    fits _ _ (omega arith) (few s.size s.r s.ram.now s.dir.now c.requires c.if-count-eq0.false)
+    fits _ _ (omega arith) (few s.size s.r s.ram.now s.dir.now c.requires c.if-r-eq0.false)
 
 pub returns : goal.returns
 returns c =
     let s = c.args in
-    to_z-of_z w16 _ (overflow_sub-result c) ∙ apart _ _ (omega arith) (few s.size s.r s.ram.now s.dir.now c.requires c.if-count-eq0.false)
-    ∙ sym (unread-some s.size s.r.frames s.ram.now s.dir.now c.requires.packed c.if-count-eq0.false s.r.receiver.read)
+    to_z-of_z w16 _ (overflow_sub-result c) ∙ apart _ _ (omega arith) (few s.size s.r s.ram.now s.dir.now c.requires c.if-r-eq0.false)
+    ∙ sym (unread-some s.size s.r.frames s.ram.now s.dir.now c.requires.packed c.if-r-eq0.false s.r.receiver.read)

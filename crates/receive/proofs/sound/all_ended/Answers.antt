@@ -1,23 +1,21 @@
--- `sound::all_ended` meets its contract: after i turns the answer is that of the first i words. Assumes nothing.
-use mathlib.Core.Path.{◌≡◌, refl, ap, ◌∙◌}
-use mathlib.Core.Bool.{Bool, ◌&&◌}
-use native.Mathlib.Omega.{arith}
-use lib.ListN.{get_or}
-use Rattle.receive_rules.specs.View.{all_ended, ended_word}
-use Rattle.receive_rules.proofs.Order.{all_more}
+-- `sound::all_ended` meets its contract: the test of the words, one after another. Assumes nothing.
+use mathlib.Core.Path.{◌≡◌, ◌∙◌}
+use mathlib.Core.Bool.{◌&&◌}
+use mathlib.Core.List.{List}
+use Prim.Native.Nat.{ℕ, ◌%◌}
+use lib.Dec.{ltb}
+use lib.ListN.{take}
+use Rattle.std.proofs.Common.{rules, tests}
+use Rattle.std.specs.List.{list_all}
+use Rattle.std.proofs.lemmas.Iterator.{YieldsList-from_slice}
+use Rattle.std.proofs.lemmas.Iterator.Search.{all_from_yields_List}
+use Rattle.receive_rules.specs.Sound.{sized}
+use Rattle.receive_rules.proofs.Order.{all_words}
 use Rattle.receive.proofs.sound.all_ended.Goals as goal
-
-pub loop-i-init : goal.loop-i-init
-unfolding all_ended
-loop-i-init c = (omega arith, refl)
-
-pub loop-i-preserved : goal.loop-i-preserved
-loop-i-preserved c =
-    let l = c.loop-i in
-    let s = c.args in
-    (omega arith, ap (λ (t : Bool). t && ended_word (get_or s.dir.now l.i 0)) l.invariant.1 ∙ all_more s.dir.now l.i (omega arith))
 
 pub returns : goal.returns
 returns c =
-    let e : c.loop-i.i ≡ c.args.count = omega arith in
-    rw (← e) c.loop-i.invariant.1
+    let ws : List ℕ = take c.args.count c.args.dir.now in
+    let e : c.all.result ≡ list_all (λ (w : ℕ). sized (w % 2048) && ltb w 32768) ws =
+    all_from_yields_List (λ (w : ℕ). sized (w % 2048) && ltb w 32768) _ _ c.all.result c.all.ensures.ran (YieldsList-from_slice ws cc) (λ x b q k. search (rules, tests)) in
+    e ∙ all_words ws

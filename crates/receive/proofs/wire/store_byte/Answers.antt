@@ -19,19 +19,19 @@ pub returns-then-size-older : goal.returns-then-size-older
 returns-then-size-older c =
     let s = c.args in
     let p = c.requires in
-    byte-marks s.size s.count s.b s.ram.now s.dir.now p.0 p.1 _ c.used.ensures c.if-last.false _ _ p.3 (omega arith) c.set_head.ensures
+    byte-marks s.size s.count s.b s.ram.now s.dir.now p.0 p.1 _ c.used.ensures c.if-last.false _ _ p.3 (omega arith) (rw c.area-a.ensures at c.set_head.ensures)
 
 pub append_byte-requires : goal.append_byte-requires
 append_byte-requires c =
     let s = c.args in
     let p = c.requires in
     record {
-      sound = p.0;
-      fact = rw c.room.ensures (byte_open s.size s.count s.b s.ram.now s.dir.now p.0 p.1 _ c.used.ensures c.if-last.false (omega arith));
+      sound = rw c.area-a.ensures p.0;
+      fact = rw (c.area-a.ensures, c.room.ensures) (byte_open s.size s.count s.b s.ram.now s.dir.now p.0 p.1 _ c.used.ensures c.if-last.false (omega arith));
     }
 
 pub returns : goal.returns
 returns c =
     let s = c.args in
     let p = c.requires in
-    byte-taken s.size s.count s.b s.ram.now s.dir.now p.0 p.1 _ c.used.ensures c.if-last.false _ _ (omega arith) c.append_byte.ensures
+    byte-taken s.size s.count s.b s.ram.now s.dir.now p.0 p.1 _ c.used.ensures c.if-last.false _ _ (omega arith) (rw c.area-a.ensures at c.append_byte.ensures)

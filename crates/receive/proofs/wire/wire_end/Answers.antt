@@ -7,34 +7,34 @@ use Rattle.receive_rules.proofs.Steps.{step_same, step-turns}
 use Rattle.receive.proofs.Paths.{frame-ends}
 use Rattle.receive.proofs.wire.wire_end.Goals as goal
 
-pub returns-then-r-ne2 : goal.returns-then-r-ne2
+pub returns-else-stored : goal.returns-else-stored
 unfolding wire_end
-returns-then-r-ne2 c =
+returns-else-stored c =
     let s = c.args in
-    step_same s.size _ s.ram.now s.dir.now _ c.requires.packed (rw (ne_eqb _ _ c.if-r-ne2.true))
+    step_same s.size _ s.ram.now s.dir.now _ c.requires.packed (rw (ne_eqb _ _ c.if-stored.false))
 
 pub overflow_sub-last : goal.overflow_sub-last
-overflow_sub-last c = omega (arith, (stored_some c.args.size c.args.r c.args.ram.now c.args.dir.now c.requires c.if-r-ne2.false))
+overflow_sub-last c = omega (arith, (stored_some c.args.size c.args.r c.args.ram.now c.args.dir.now c.requires c.if-stored.true))
 
-pub offset_bounds-dir-count : goal.offset_bounds-dir-count
-offset_bounds-dir-count c = omega arith
+pub offset_bounds-dir-r : goal.offset_bounds-dir-r
+offset_bounds-dir-r c = omega arith
 
-pub bounds-dir-count : goal.bounds-dir-count
-bounds-dir-count c =
+pub bounds-dir-r : goal.bounds-dir-r
+bounds-dir-r c =
     let p = c.requires.packed in
-    omega (arith, (stored_some c.args.size c.args.r c.args.ram.now c.args.dir.now c.requires c.if-r-ne2.false), p.in_dir, p.few)
+    omega (arith, (stored_some c.args.size c.args.r c.args.ram.now c.args.dir.now c.requires c.if-stored.true), p.in_dir, p.few)
 
 pub end_head-requires : goal.end_head-requires
 end_head-requires c = tt
 
 pub set_head-requires : goal.set_head-requires
 set_head-requires c =
-    (c.requires.packed, (stored_some c.args.size c.args.r c.args.ram.now c.args.dir.now c.requires c.if-r-ne2.false), c.end_head.ensures.1)
+    (rw c.area.ensures c.requires.packed, (stored_some c.args.size c.args.r c.args.ram.now c.args.dir.now c.requires c.if-stored.true), c.end_head.ensures.1)
 
-pub returns : goal.returns
+pub returns-then-stored : goal.returns-then-stored
 unfolding wire_end
-returns c =
+returns-then-stored c =
     let s = c.args in
     step-turns s.size _ s.ram.now s.dir.now _ _ _ _
-    (frame-ends s.size s.r.frames _ s.check s.alignment s.ram.now s.dir.now _ _ c.requires.packed ((stored_some c.args.size c.args.r c.args.ram.now c.args.dir.now c.requires c.if-r-ne2.false)) c.end_head.ensures.0 c.set_head.ensures)
-    (rw (eq-eqb _ _ c.if-r-ne2.false))
+    (frame-ends s.size s.r.frames _ s.check s.alignment s.ram.now s.dir.now _ _ c.requires.packed ((stored_some c.args.size c.args.r c.args.ram.now c.args.dir.now c.requires c.if-stored.true)) c.end_head.ensures.0 (rw c.area.ensures at c.set_head.ensures))
+    (rw (eq-eqb _ _ c.if-stored.true))

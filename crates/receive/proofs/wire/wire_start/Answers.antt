@@ -36,9 +36,9 @@ begin-requires c =
     let u = c.used-used in
     let p = c.requires.0 in
     let k = fitting s.taken s.r.receiver.on (u.result + 8) s.size c.if-taken-r.true in (
-      p.packed,
-      place-left s.size s.r.frames (eqb s.r.receiver.wire 2) s.ram.now s.dir.now p.packed (facts s.size s.r s.ram.now s.dir.now p).order
-          (omega (arith, k, u.ensures)) p.small,
+      rw c.area-a.ensures p.packed,
+      rw c.area-a.ensures (place-left s.size s.r.frames (eqb s.r.receiver.wire 2) s.ram.now s.dir.now p.packed (facts s.size s.r s.ram.now s.dir.now p).order
+          (omega (arith, k, u.ensures)) p.small),
       lit< tt,
     )
 
@@ -53,7 +53,7 @@ append_bytes-requires c =
     let e : store.room_in fs ≡ u.result = room_in_lem s.size s.r.frames s.ram.now s.dir.now c.requires.0.packed ∙ sym u.ensures in
     record {
       sound = B.sound;
-      fact = rw (B.holds, n8) (start_open s.size u.result 8 16 fs (sym e) (lit≤ tt) (omega (arith, k, e)));
+      fact = rw (B.holds, n8, c.area-a.ensures) (start_open s.size u.result 8 16 fs (sym e) (lit≤ tt) (omega (arith, k, e)));
     }
 
 pub returns-then-taken-r : goal.returns-then-taken-r
@@ -63,7 +63,7 @@ returns-then-taken-r c =
     let u = c.used-used in
     let t = same_test s.size s.r s.ram.now s.dir.now s.taken c.requires.0 _ true u.ensures c.if-taken-r.true in
     step-turns s.size _ s.ram.now s.dir.now _ _ _ _
-    (start-turns s.size s.r.frames s.first s.ram.now s.dir.now _ _ _ _ c.begin.ensures c.append_bytes.ensures)
+    (start-turns s.size s.r.frames s.first s.ram.now s.dir.now _ _ _ _ (rw c.area-a.ensures at c.begin.ensures) (rw c.area-a.ensures at c.append_bytes.ensures))
     (rw t)
 
 pub returns : goal.returns

@@ -24,8 +24,7 @@ pub fn tx_sound(ram: &[u8], dir: &[u16], size: usize, t: Transmit) -> bool
     requires { (size ≤ 4096) × (8192 ≤ length ram.now) × (1110 ≤ length dir.now) }
     ensures { result ≡ sound_side size t ram.now dir.now }
 {
-    let packed = queue::fifo_sound(ram, dir, size, t.fifo);
-    if !packed {
+    if !queue::fifo_sound(ram, dir, size, t.fifo) {
         return false;
     }
     let free = queue::fifo_free(ram, dir, size, t.fifo);
@@ -47,18 +46,17 @@ pub fn write_data(ram: &mut [u8], dir: &mut [u16], size: usize, t: Transmit, v: 
     requires { Sound size t ram.old dir.old }
     ensures { Step size result ram.old dir.old ram.new dir.new (write_data size v (tx_of size t ram.old dir.old)) }
 {
-    let f = queue::put_word(ram, dir, size, t.fifo, v);
-    let mut next = t;
-    next.fifo = f;
-    next
+    Transmit {
+        fifo: queue::put_word(ram, dir, size, t.fifo, v),
+        ..t
+    }
 }
 
 // A send outcome is possible.
 pub fn is_ready(t: Transmit) -> bool
     ensures { Says t result ready }
 {
-    let n = t.fifo.packets;
-    t.outcomes.sender.on & !t.fifo.failed & (0 < n)
+    t.outcomes.sender.on & !t.fifo.failed & (0 < t.fifo.packets)
 }
 
 // Success: the oldest packet goes, and the first `n` bytes of `out` are what the wire is told.
@@ -69,15 +67,11 @@ pub fn success(ram: &mut [u8], dir: &mut [u16], size: usize, t: Transmit, out: &
 {
     let wanted = queue::oldest_wanted(ram, dir, size, t.fifo);
     let n = queue::tell(ram, dir, size, t.fifo, out);
-    let f = queue::leave_first(ram, dir, size, t.fifo);
-    let o = outcomes::success(t.outcomes, wanted);
-    let next = Transmit {
-        fifo: f,
-        outcomes: o,
-    };
+    let fifo = queue::leave_first(ram, dir, size, t.fifo);
+    let outcomes = outcomes::success(t.outcomes, wanted);
     Gone {
-        transmit: next,
-        n: n,
+        transmit: Transmit { fifo, outcomes },
+        n,
     }
 }
 
@@ -87,12 +81,9 @@ pub fn collisions(ram: &mut [u8], dir: &mut [u16], size: usize, t: Transmit) -> 
     ensures { Step size result ram.old dir.old ram.new dir.new (collisions_of (tx_of size t ram.old dir.old)) }
 {
     let wanted = queue::oldest_wanted(ram, dir, size, t.fifo);
-    let f = queue::leave_first(ram, dir, size, t.fifo);
-    let o = outcomes::collisions(t.outcomes, wanted);
-    Transmit {
-        fifo: f,
-        outcomes: o,
-    }
+    let fifo = queue::leave_first(ram, dir, size, t.fifo);
+    let outcomes = outcomes::collisions(t.outcomes, wanted);
+    Transmit { fifo, outcomes }
 }
 
 // TX Available, at the end of every step.
@@ -102,15 +93,14 @@ pub fn settle(ram: &[u8], dir: &[u16], size: usize, t: Transmit) -> Transmit
 {
     // TX Free is summed only where the answer hangs on it.
     let s = t.outcomes.sender;
-    let known = (1792 < s.level) | s.available;
-    if known {
+    if (1792 < s.level) | s.available {
         return t;
     }
     let free = queue::fifo_free(ram, dir, size, t.fifo);
-    let o = outcomes::settle_available(t.outcomes, free);
-    let mut next = t;
-    next.outcomes = o;
-    next
+    Transmit {
+        outcomes: outcomes::settle_available(t.outcomes, free),
+        ..t
+    }
 }
 
 // A write to TX Status: the oldest status goes.
@@ -118,8 +108,8 @@ pub fn pop_status(t: Transmit) -> Transmit
     requires { Stacked t.outcomes }
     ensures { Does t result (on_reports outcome.pop) }
 {
-    let o = outcomes::pop_status(t.outcomes);
-    let mut next = t;
-    next.outcomes = o;
-    next
+    Transmit {
+        outcomes: outcomes::pop_status(t.outcomes),
+        ..t
+    }
 }

@@ -13,20 +13,17 @@ const THRESHOLD_DEFAULT: u16 = 2044;
 pub fn fresh() -> Outcomes
     ensures { Reported result outcome.at_power_on }
 {
-    let sender = Sender {
-        on: false,
-        available: false,
-        level: THRESHOLD_DEFAULT,
-        start: THRESHOLD_DEFAULT,
-    };
-    let entries = [0u8; 31];
-    let statuses = Statuses {
-        entries: entries,
-        count: 0,
-    };
     Outcomes {
-        sender: sender,
-        statuses: statuses,
+        sender: Sender {
+            on: false,
+            available: false,
+            level: THRESHOLD_DEFAULT,
+            start: THRESHOLD_DEFAULT,
+        },
+        statuses: Statuses {
+            entries: [0; 31],
+            count: 0,
+        },
     }
 }
 
@@ -44,11 +41,10 @@ pub fn top_status(o: Outcomes) -> u8
     requires { Stacked o }
     ensures { result ≡ outcome.top (stack_of o.statuses) }
 {
-    let s = o.statuses;
-    if s.count == 0 {
+    if o.statuses.count == 0 {
         return 0;
     }
-    s.entries[0]
+    o.statuses.entries[0]
 }
 
 // TX Complete: a status stands.
@@ -56,18 +52,16 @@ pub fn has_status(o: Outcomes) -> bool
     requires { Stacked o }
     ensures { result ≡ outcome.some (stack_of o.statuses) }
 {
-    let n = o.statuses.count;
-    0 < n
+    0 < o.statuses.count
 }
 
 // A write to TX Status: the oldest status goes. The stack is lent where it lies.
-pub fn pop_status(o: Outcomes) -> Outcomes
+pub fn pop_status(mut o: Outcomes) -> Outcomes
     requires { Stacked o }
     ensures { Reported result (outcome.pop (reports_of o)) }
 {
-    let mut next = o;
-    statuses::pop(&mut next.statuses);
-    next
+    statuses::pop(&mut o.statuses);
+    o
 }
 
 // What a success reports; `wanted` is bit 15 of the packet's preamble.
@@ -86,94 +80,79 @@ pub fn collisions(o: Outcomes, wanted: bool) -> Outcomes
     requires { Stacked o }
     ensures { Reported result (outcome.collided wanted (reports_of o)) }
 {
-    let mut next = stack::report(o, stack::collision_status(wanted));
-    next.sender.on = false;
-    next
+    let mut o = stack::report(o, stack::collision_status(wanted));
+    o.sender.on = false;
+    o
 }
 
 // TX Enable: nothing while the stack is full.
-pub fn enable(o: Outcomes) -> Outcomes
+pub fn enable(mut o: Outcomes) -> Outcomes
     requires { Stacked o }
     ensures { Reported result (outcome.enable (reports_of o)) }
 {
-    let n = o.statuses.count;
-    let on = o.sender.on | (n < 31);
-    let mut next = o;
-    next.sender.on = on;
-    next
+    o.sender.on |= o.statuses.count < 31;
+    o
 }
 
 // TX Disable.
-pub fn disable(o: Outcomes) -> Outcomes
+pub fn disable(mut o: Outcomes) -> Outcomes
     requires { Stacked o }
     ensures { Reported result (outcome.off (reports_of o)) }
 {
-    let mut next = o;
-    next.sender.on = false;
-    next
+    o.sender.on = false;
+    o
 }
 
 // TX Reset: the transmitter is off, both thresholds are the defaults, and the statuses stay.
-pub fn reset(o: Outcomes) -> Outcomes
+pub fn reset(mut o: Outcomes) -> Outcomes
     requires { Stacked o }
     ensures { Reported result (outcome.reset (reports_of o)) }
 {
-    let mut next = o;
-    next.sender.on = false;
-    next.sender.level = THRESHOLD_DEFAULT;
-    next.sender.start = THRESHOLD_DEFAULT;
-    next
+    o.sender.on = false;
+    o.sender.level = THRESHOLD_DEFAULT;
+    o.sender.start = THRESHOLD_DEFAULT;
+    o
 }
 
 // The TX Available threshold.
-pub fn set_level(o: Outcomes, n: u16) -> Outcomes
+pub fn set_level(mut o: Outcomes, n: u16) -> Outcomes
     requires { Stacked o }
     ensures { Reported result (outcome.set_level n (reports_of o)) }
 {
-    let level = n / 4 * 4;
-    let mut next = o;
-    next.sender.level = level;
-    next
+    o.sender.level = n / 4 * 4;
+    o
 }
 
 // The TX Start threshold.
-pub fn set_start(o: Outcomes, n: u16) -> Outcomes
+pub fn set_start(mut o: Outcomes, n: u16) -> Outcomes
     requires { Stacked o }
     ensures { Reported result (outcome.set_start n (reports_of o)) }
 {
-    let start = n / 4 * 4;
-    let mut next = o;
-    next.sender.start = start;
-    next
+    o.sender.start = n / 4 * 4;
+    o
 }
 
 // Acknowledging TX Available, where it is named: while set it is cleared, and the threshold is disabled.
-pub fn acknowledge(o: Outcomes, named: bool) -> Outcomes
+pub fn acknowledge(mut o: Outcomes, named: bool) -> Outcomes
     requires { Stacked o }
     ensures { Reported result (outcome.acknowledge named (reports_of o)) }
 {
-    let was = o.sender.available;
-    let cleared = named & was;
-    let mut next = o;
-    if cleared {
-        next.sender.available = false;
-        next.sender.level = THRESHOLD_DEFAULT;
-        return next;
+    if named & o.sender.available {
+        o.sender.available = false;
+        o.sender.level = THRESHOLD_DEFAULT;
+        return o;
     }
-    next
+    o
 }
 
 // TX Available, when `free` is TX Free.
-pub fn settle_available(o: Outcomes, free: usize) -> Outcomes
+pub fn settle_available(mut o: Outcomes, free: usize) -> Outcomes
     requires { Stacked o }
     ensures { Reported result (outcome.settle_available free (reports_of o)) }
 {
-    let s = o.sender;
-    let level = s.level as usize;
-    let available = ((level <= 1792) & (level < free)) | s.available;
-    let mut next = o;
-    next.sender.available = available;
-    next
+    let level = o.sender.level as usize;
+    o.sender.available = ((level <= 1792) & (level < free)) | o.sender.available;
+    o
 }
 
 // TX Available stands if it is due, when `free` is TX Free.

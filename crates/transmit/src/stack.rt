@@ -9,13 +9,12 @@ use crate::statuses;
 use transmit_rules::Outcomes;
 
 // One more status, the newest. The stack is lent where it lies.
-pub fn push_status(o: Outcomes, v: u8) -> Outcomes
+pub fn push_status(mut o: Outcomes, v: u8) -> Outcomes
     requires { Room o.statuses }
     ensures { Reported result (with_statuses (added v (stack o.statuses)) (reports_of o)) }
 {
-    let mut next = o;
-    statuses::push(&mut next.statuses, v);
-    next
+    statuses::push(&mut o.statuses, v);
+    o
 }
 
 // A status is reported. The push that fills the stack adds 04h and turns the transmitter off.
@@ -23,14 +22,13 @@ pub fn report(o: Outcomes, v: u8) -> Outcomes
     requires { Stacked o × (v ≤ 251) }
     ensures { Reported result (push v (reports_of o)) }
 {
-    let n = o.statuses.count;
-    if n < 30 {
+    if o.statuses.count < 30 {
         return push_status(o, v);
     }
-    if n < 31 {
-        let mut next = push_status(o, v + 4);
-        next.sender.on = false;
-        return next;
+    if o.statuses.count < 31 {
+        let mut full = push_status(o, v + 4);
+        full.sender.on = false;
+        return full;
     }
     o
 }
@@ -39,8 +37,5 @@ pub fn report(o: Outcomes, v: u8) -> Outcomes
 pub fn collision_status(wanted: bool) -> u8
     ensures { (result ≡ cond wanted 200 136) × (result ≤ 251) }
 {
-    if wanted {
-        return 200;
-    }
-    136
+    if wanted { 200 } else { 136 }
 }

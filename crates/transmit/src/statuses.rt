@@ -39,11 +39,6 @@ fn take_oldest(entries: &mut [u8; 31], count: &mut usize)
     if n == 0 {
         return;
     }
-    let mut i = 0;
-    while i + 1 < n {
-        let x = entries[i + 1];
-        entries[i] = x;
-        i += 1;
-    }
+    entries.copy_within(1..n, 0);
     *count = n - 1;
 }

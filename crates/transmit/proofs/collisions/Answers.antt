@@ -10,15 +10,15 @@ pub oldest_wanted-wanted-requires : goal.oldest_wanted-wanted-requires
 oldest_wanted-wanted-requires c =
     let s = c.args in (fifo_holds s.size s.t s.ram.now s.dir.now c.requires.0, c.requires.1)
 
-pub leave_first-f-requires : goal.leave_first-f-requires
-leave_first-f-requires c =
+pub leave_first-fifo-requires : goal.leave_first-fifo-requires
+leave_first-fifo-requires c =
     let s = c.args in (fifo_holds s.size s.t s.ram.now s.dir.now c.requires.0, c.requires.1)
 
-pub collisions-o-requires : goal.collisions-o-requires
-collisions-o-requires c = c.requires.0.stacked
+pub collisions-outcomes-requires : goal.collisions-outcomes-requires
+collisions-outcomes-requires c = c.requires.0.stacked
 
 pub returns : goal.returns
 unfolding collisions
 returns c =
     let s = c.args in
-    step-turns s.size _ _ s.ram.now s.dir.now _ _ _ _ c.leave_first-f.ensures (report_as _ (λ b. outcome.collided b (reports_of s.t.outcomes)) _ _ c.oldest_wanted-wanted.ensures c.collisions-o.ensures)
+    step-turns s.size _ _ s.ram.now s.dir.now _ _ _ _ c.leave_first-fifo.ensures (report_as _ (λ b. outcome.collided b (reports_of s.t.outcomes)) _ _ c.oldest_wanted-wanted.ensures c.collisions-outcomes.ensures)

@@ -9,16 +9,16 @@ use Rattle.transmit_rules.proofs.Sound.{unsettled_holds}
 use Rattle.transmit_rules.proofs.Steps.{step-reports}
 use Rattle.transmit.proofs.settle.Goals as goal
 
-pub returns-then-known : goal.returns-then-known
-returns-then-known c =
+pub returns-then-s : goal.returns-then-s
+returns-then-s c =
     let t = c.args.t in
     let q = free c.args.size (queue_of c.args.size t.fifo c.args.ram.now c.args.dir.now) in
     step-reports c.args.size t t.outcomes c.args.ram.now c.args.dir.now (settle_available q (reports_of t.outcomes)) c.requires.packed
-    (record { tells = sym (settle-stays q (reports_of t.outcomes) (known_settled q t.outcomes.sender c.if-known.true)); stacked = c.requires.stacked })
+    (record { tells = sym (settle-stays q (reports_of t.outcomes) (known_settled q t.outcomes.sender c.if-s.true)); stacked = c.requires.stacked })
 
 pub fifo_free-free-requires : goal.fifo_free-free-requires
 fifo_free-free-requires c = unsettled_holds c.args.size c.args.t c.args.ram.now c.args.dir.now c.requires
 
 pub returns : goal.returns
 returns c =
-    step-reports c.args.size c.args.t _ c.args.ram.now c.args.dir.now _ c.requires.packed (rw c.fifo_free-free.ensures at c.settle_available-o.ensures)
+    step-reports c.args.size c.args.t _ c.args.ram.now c.args.dir.now _ c.requires.packed (rw c.fifo_free-free.ensures at c.settle_available.ensures)

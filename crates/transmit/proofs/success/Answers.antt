@@ -14,16 +14,16 @@ pub tell-n-requires : goal.tell-n-requires
 tell-n-requires c =
     let s = c.args in (fifo_holds s.size s.t s.ram.now s.dir.now c.requires.0, c.requires.1, c.requires.2)
 
-pub leave_first-f-requires : goal.leave_first-f-requires
-leave_first-f-requires c =
+pub leave_first-fifo-requires : goal.leave_first-fifo-requires
+leave_first-fifo-requires c =
     let s = c.args in (fifo_holds s.size s.t s.ram.now s.dir.now c.requires.0, c.requires.1)
 
-pub success-o-requires : goal.success-o-requires
-success-o-requires c =
+pub success-outcomes-requires : goal.success-outcomes-requires
+success-outcomes-requires c =
     c.requires.0.stacked
 
 pub returns : goal.returns
 unfolding success
 returns c =
     let s = c.args in
-    record { step = step-turns s.size _ _ s.ram.now s.dir.now _ _ _ _ c.leave_first-f.ensures (report_as _ (λ b. outcome.succeeded b (reports_of s.t.outcomes)) _ _ c.oldest_wanted-wanted.ensures c.success-o.ensures); tells = c.tell-n.ensures }
+    record { step = step-turns s.size _ _ s.ram.now s.dir.now _ _ _ _ c.leave_first-fifo.ensures (report_as _ (λ b. outcome.succeeded b (reports_of s.t.outcomes)) _ _ c.oldest_wanted-wanted.ensures c.success-outcomes.ensures); tells = c.tell-n.ensures }

@@ -11,9 +11,9 @@ kept : (named was : Bool) → (named && was) ≡ false → (not named && was) �
 kept true was h = cc
 kept false was h = refl
 
-pub returns-then-cleared : goal.returns-then-cleared
-returns-then-cleared c =
-    let s = c.args.o.sender in record { tells = rw (cleared c.args.named s.available c.if-cleared.true, c.if-cleared.true); stacked = c.requires }
+pub returns-then-named-o : goal.returns-then-named-o
+returns-then-named-o c =
+    let s = c.args.o.sender in record { tells = rw (cleared c.args.named s.available c.if-named-o.true, c.if-named-o.true); stacked = c.requires }
 
 pub returns : goal.returns
-returns c = let s = c.args.o.sender in record { tells = rw (kept c.args.named s.available c.if-cleared.false, c.if-cleared.false); stacked = c.requires }
+returns c = let s = c.args.o.sender in record { tells = rw (kept c.args.named s.available c.if-named-o.false, c.if-named-o.false); stacked = c.requires }

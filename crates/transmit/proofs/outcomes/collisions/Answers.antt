@@ -10,4 +10,4 @@ pub returns : goal.returns
 unfolding outcome.collided
 returns c =
     let o = c.args.o in
-    record { tells = ap off (c.report-next.ensures.tells ∙ ap (λ (v : ℕ). push v (reports_of o)) c.collision_status.ensures.0); stacked = c.report-next.ensures.stacked }
+    record { tells = ap off (c.report-o.ensures.tells ∙ ap (λ (v : ℕ). push v (reports_of o)) c.collision_status.ensures.0); stacked = c.report-o.ensures.stacked }

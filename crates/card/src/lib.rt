@@ -1,12 +1,13 @@
 #![tactic(auto)]
 // The card: its public calls. Each tests the state that it is handed (refusal 1) and its arguments, refuses with card and memory as they came, or takes the step.
+ghost use Rattle.std.specs.Prelude.{◌≡◌, Err};
 ghost use Rattle.card_rules.specs.CardContracts as contract;
 
-use card_rules::{AfterCall, AfterRead, AfterSuccess, Card, Done, Read, RxStatus, Told};
+use card_rules::{After, Card, RxStatus};
 use port_rules::IdState;
 use refusal::Refusal;
 
-mod tests; // tests.rt: the tests of the card's public calls on their arguments
+mod tests; // tests.rt: the tests of the card's public calls on what they are handed
 
 // A card at power-on with these EEPROM words, and nothing on the wire.
 pub fn power_on(words: [u16; 64]) -> Card
@@ -15,145 +16,97 @@ pub fn power_on(words: [u16; 64]) -> Card
     regs::power_on(words, 0)
 }
 
+// A refused call: the card is as it came.
+fn refused<T>(card: Card, why: Refusal) -> After<T>
+    ensures { result ≡ record { card = card; answer = Err why } }
+{
+    After {
+        card,
+        answer: Err(why),
+    }
+}
+
 // The host reads a word.
-pub fn read_word(ram: &[u8; 8192], dir: &[u16; 1110], c: Card, o: u16) -> AfterRead
+pub fn read_word(ram: &[u8; 8192], dir: &[u16; 1110], c: Card, o: u16) -> After<u16>
     ensures { contract.ReadsWord c ram.now dir.now o result }
 {
-    if !regs::is_sound(ram, dir, c) {
-        return AfterRead {
-            card: c,
-            answer: Read::Refused(Refusal::StateUnsound),
-        };
-    }
-    if !tests::is_word(o) {
-        return AfterRead {
-            card: c,
-            answer: Read::Refused(Refusal::ArgumentOutside),
-        };
+    if let Err(why) = tests::word(ram, dir, c, o) {
+        return refused(c, why);
     }
     let got = steps::read_word(ram, dir, c, o);
-    let card = got.card;
-    let word = got.value;
-    AfterRead {
-        card: card,
-        answer: Read::Value(word),
+    After {
+        card: got.card,
+        answer: Ok(got.value),
     }
 }
 
 // The host reads a byte.
-pub fn read_byte(ram: &[u8; 8192], dir: &[u16; 1110], c: Card, o: u16) -> AfterRead
+pub fn read_byte(ram: &[u8; 8192], dir: &[u16; 1110], c: Card, o: u16) -> After<u16>
     ensures { contract.ReadsByte c ram.now dir.now o result }
 {
-    if !regs::is_sound(ram, dir, c) {
-        return AfterRead {
-            card: c,
-            answer: Read::Refused(Refusal::StateUnsound),
-        };
-    }
-    if !tests::is_byte(c.select.window, o) {
-        return AfterRead {
-            card: c,
-            answer: Read::Refused(Refusal::ArgumentOutside),
-        };
+    if let Err(why) = tests::byte(ram, dir, c, o) {
+        return refused(c, why);
     }
     let got = steps::read_byte(ram, dir, c, o);
-    let card = got.card;
-    let word = got.value;
-    AfterRead {
-        card: card,
-        answer: Read::Value(word),
+    After {
+        card: got.card,
+        answer: Ok(got.value),
     }
 }
 
 // The host writes a word.
-pub fn write_word(ram: &mut [u8; 8192], dir: &mut [u16; 1110], c: Card, o: u16, v: u16) -> AfterCall
+pub fn write_word(ram: &mut [u8; 8192], dir: &mut [u16; 1110], c: Card, o: u16, v: u16) -> After<()>
     ensures { contract.WritesWord c ram.old dir.old o v result ram.new dir.new }
 {
-    if !regs::is_sound(ram, dir, c) {
-        return AfterCall {
-            card: c,
-            answer: Done::Refused(Refusal::StateUnsound),
-        };
-    }
-    if !tests::is_word(o) {
-        return AfterCall {
-            card: c,
-            answer: Done::Refused(Refusal::ArgumentOutside),
-        };
+    if let Err(why) = tests::word(ram, dir, c, o) {
+        return refused(c, why);
     }
     let card = steps::write_word(ram, dir, c, o, v);
-    AfterCall {
-        card: card,
-        answer: Done::Done,
+    After {
+        card,
+        answer: Ok(()),
     }
 }
 
 // The host writes a byte.
-pub fn write_byte(ram: &mut [u8; 8192], dir: &mut [u16; 1110], c: Card, o: u16, v: u8) -> AfterCall
+pub fn write_byte(ram: &mut [u8; 8192], dir: &mut [u16; 1110], c: Card, o: u16, v: u8) -> After<()>
     ensures { contract.WritesByte c ram.old dir.old o v result ram.new dir.new }
 {
-    if !regs::is_sound(ram, dir, c) {
-        return AfterCall {
-            card: c,
-            answer: Done::Refused(Refusal::StateUnsound),
-        };
-    }
-    if !tests::is_byte(c.select.window, o) {
-        return AfterCall {
-            card: c,
-            answer: Done::Refused(Refusal::ArgumentOutside),
-        };
+    if let Err(why) = tests::byte(ram, dir, c, o) {
+        return refused(c, why);
     }
     let card = steps::write_byte(ram, dir, c, o, v);
-    AfterCall {
-        card: card,
-        answer: Done::Done,
+    After {
+        card,
+        answer: Ok(()),
     }
 }
 
 // The wire starts a frame with its first 8 bytes.
-pub fn wire_start(ram: &mut [u8; 8192], dir: &mut [u16; 1110], c: Card, first: [u8; 8]) -> AfterCall
+pub fn wire_start(ram: &mut [u8; 8192], dir: &mut [u16; 1110], c: Card, first: [u8; 8]) -> After<()>
     ensures { contract.WireStart c ram.old dir.old first result ram.new dir.new }
 {
-    if !regs::is_sound(ram, dir, c) {
-        return AfterCall {
-            card: c,
-            answer: Done::Refused(Refusal::StateUnsound),
-        };
-    }
-    if !tests::off_wire(c.receive.receiver.wire) {
-        return AfterCall {
-            card: c,
-            answer: Done::Refused(Refusal::OutOfTurn),
-        };
+    if let Err(why) = tests::off_wire(ram, dir, c) {
+        return refused(c, why);
     }
     let card = steps::wire_start(ram, dir, c, first);
-    AfterCall {
-        card: card,
-        answer: Done::Done,
+    After {
+        card,
+        answer: Ok(()),
     }
 }
 
 // The wire brings a byte.
-pub fn wire_byte(ram: &mut [u8; 8192], dir: &mut [u16; 1110], c: Card, b: u8) -> AfterCall
+pub fn wire_byte(ram: &mut [u8; 8192], dir: &mut [u16; 1110], c: Card, b: u8) -> After<()>
     ensures { contract.WireByte c ram.old dir.old b result ram.new dir.new }
 {
-    if !regs::is_sound(ram, dir, c) {
-        return AfterCall {
-            card: c,
-            answer: Done::Refused(Refusal::StateUnsound),
-        };
-    }
-    if !tests::on_wire(c.receive.receiver.wire) {
-        return AfterCall {
-            card: c,
-            answer: Done::Refused(Refusal::OutOfTurn),
-        };
+    if let Err(why) = tests::on_wire(ram, dir, c) {
+        return refused(c, why);
     }
     let card = steps::wire_byte(ram, dir, c, b);
-    AfterCall {
-        card: card,
-        answer: Done::Done,
+    After {
+        card,
+        answer: Ok(()),
     }
 }
 
@@ -164,25 +117,16 @@ pub fn wire_end(
     c: Card,
     check: bool,
     alignment: bool,
-) -> AfterCall
+) -> After<()>
     ensures { contract.WireEnd c ram.old dir.old check alignment result ram.new dir.new }
 {
-    if !regs::is_sound(ram, dir, c) {
-        return AfterCall {
-            card: c,
-            answer: Done::Refused(Refusal::StateUnsound),
-        };
-    }
-    if !tests::on_wire(c.receive.receiver.wire) {
-        return AfterCall {
-            card: c,
-            answer: Done::Refused(Refusal::OutOfTurn),
-        };
+    if let Err(why) = tests::on_wire(ram, dir, c) {
+        return refused(c, why);
     }
     let card = steps::wire_end(ram, dir, c, check, alignment);
-    AfterCall {
-        card: card,
-        answer: Done::Done,
+    After {
+        card,
+        answer: Ok(()),
     }
 }
 
@@ -192,99 +136,68 @@ pub fn success(
     dir: &mut [u16; 1110],
     c: Card,
     out: &mut [u8; 1792],
-) -> AfterSuccess
+) -> After<usize>
     ensures success { contract.Success c ram.old dir.old result ram.new dir.new }
     ensures success_area { contract.SuccessArea c ram.old dir.old out.old out.new }
 {
-    if !regs::is_sound(ram, dir, c) {
-        return AfterSuccess {
-            card: c,
-            answer: Told::Refused(Refusal::StateUnsound),
-        };
-    }
-    if !transmit::is_ready(c.transmit) {
-        return AfterSuccess {
-            card: c,
-            answer: Told::Refused(Refusal::OutOfTurn),
-        };
+    if let Err(why) = tests::ready(ram, dir, c) {
+        return refused(c, why);
     }
     let gone = steps::success(ram, dir, c, out);
-    let card = gone.card;
-    let n = gone.n;
-    AfterSuccess {
-        card: card,
-        answer: Told::Told(n),
+    After {
+        card: gone.card,
+        answer: Ok(gone.n),
     }
 }
 
 // A send outcome: 16 collisions.
-pub fn collisions(ram: &mut [u8; 8192], dir: &mut [u16; 1110], c: Card) -> AfterCall
+pub fn collisions(ram: &mut [u8; 8192], dir: &mut [u16; 1110], c: Card) -> After<()>
     ensures { contract.Collisions c ram.old dir.old result ram.new dir.new }
 {
-    if !regs::is_sound(ram, dir, c) {
-        return AfterCall {
-            card: c,
-            answer: Done::Refused(Refusal::StateUnsound),
-        };
-    }
-    if !transmit::is_ready(c.transmit) {
-        return AfterCall {
-            card: c,
-            answer: Done::Refused(Refusal::OutOfTurn),
-        };
+    if let Err(why) = tests::ready(ram, dir, c) {
+        return refused(c, why);
     }
     let card = steps::collisions(ram, dir, c);
-    AfterCall {
-        card: card,
-        answer: Done::Done,
+    After {
+        card,
+        answer: Ok(()),
     }
 }
 
 // An ID state, as the ID port left it, is seated as the card's own; a reset that is due is carried out.
-pub fn seat(ram: &[u8; 8192], dir: &[u16; 1110], c: Card, i: IdState) -> AfterCall
+pub fn seat(ram: &[u8; 8192], dir: &[u16; 1110], c: Card, i: IdState) -> After<()>
     ensures { contract.Seat c ram.now dir.now i result }
 {
-    if !regs::is_sound(ram, dir, c) {
-        return AfterCall {
-            card: c,
-            answer: Done::Refused(Refusal::StateUnsound),
-        };
-    }
-    if !idport::id_sound(i) {
-        return AfterCall {
-            card: c,
-            answer: Done::Refused(Refusal::StateUnsound),
-        };
+    if let Err(why) = tests::seats(ram, dir, c, i) {
+        return refused(c, why);
     }
     let card = steps::seat(ram, dir, c, i);
-    AfterCall {
-        card: card,
-        answer: Done::Done,
+    After {
+        card,
+        answer: Ok(()),
     }
 }
 
 // The interrupt line that the card drives: 3, 5, 7, 9, 10, 11, 12 or 15, and 0 for none.
-pub fn interrupt_line(ram: &[u8; 8192], dir: &[u16; 1110], c: Card) -> Read
+pub fn interrupt_line(ram: &[u8; 8192], dir: &[u16; 1110], c: Card) -> Result<u16, Refusal>
     ensures { contract.InterruptLine c ram.now dir.now result }
 {
-    if !regs::is_sound(ram, dir, c) {
-        return Read::Refused(Refusal::StateUnsound);
-    }
-    let line = regs::interrupt_line(c);
-    Read::Value(line)
+    tests::sound(ram, dir, c)?;
+    Ok(regs::interrupt_line(c))
 }
 
 // RX Status, whatever window is selected, and the unread bytes as a signed number: -3 to 1,792. An inactive card reads all ones, and 0 is told.
-pub fn rx_status(ram: &[u8; 8192], dir: &[u16; 1110], c: Card) -> RxStatus
+pub fn rx_status(ram: &[u8; 8192], dir: &[u16; 1110], c: Card) -> Result<RxStatus, Refusal>
     ensures { contract.TellsRxStatus c ram.now dir.now result }
 {
-    if !regs::is_sound(ram, dir, c) {
-        return RxStatus::Refused(Refusal::StateUnsound);
-    }
+    tests::sound(ram, dir, c)?;
     if !c.id.active {
-        return RxStatus::Shows(65535, 0);
+        return Ok(RxStatus {
+            word: 65535,
+            unread: 0,
+        });
     }
     let word = regs::rx_status(ram, dir, c);
     let unread = regs::unread(ram, dir, c);
-    RxStatus::Shows(word, unread)
+    Ok(RxStatus { word, unread })
 }

@@ -1,6 +1,7 @@
 -- The public calls: which refusal comes or which answer, and what becomes of card and memory. Assumes nothing.
-use Rattle.std.specs.Prelude.{◌≡◌, List, ◌++◌, ℕ, zero, suc, length, drop, Result, Ok, Err, ⊤}
+use Rattle.std.specs.Prelude.{◌≡◌, Bool, cond, List, ◌++◌, ℕ, zero, suc, length, drop, Result, Ok, Err, ⊤}
 use Rattle.refusal.specs.declared.Refusal.{Refusal}
+use Rattle.refusal.specs.declared.Refusal.TheVariants.{StateUnsound}
 use Rattle.refusal.specs.Number.{number_of}
 -- which refusal comes
 unfoldable pub use Rattle.card_rules.specs.Tests.{judged}
@@ -26,6 +27,10 @@ done_reply (Err why) = refused (number_of why)
 abbrev pub told_reply : Result ℕ Refusal → Reply
 told_reply (Ok n) = value n
 told_reply (Err why) = refused (number_of why)
+
+-- What a call's tests answer: 1 of an unsound state, then the call's own refusal.
+unfoldable pub tested : Bool → Bool → Refusal → Result ⊤ Refusal
+tested sound ok own = cond sound (cond ok (Ok tt) (Err own)) (Err StateUnsound)
 
 -- a refusal, or the answer of the step
 unfoldable pub replying : ℕ → Reply → Reply

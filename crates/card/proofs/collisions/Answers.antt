@@ -4,26 +4,20 @@ use mathlib.Core.Path.{refl, sym, ◌∙◌}
 use Rattle.transmit_rules.proofs.Steps.{ready-some}
 use Rattle.card_rules.specs.View.{view}
 use Rattle.card_rules.proofs.Checked.{card-told}
-use Rattle.card_rules.proofs.Judged.{unsound, refuses, goes}
+use Rattle.card_rules.proofs.Judged.{passed, refuses, goes}
 use Rattle.card.proofs.collisions.Goals as goal
 
-pub returns-then-not-is_sound : goal.returns-then-not-is_sound
-returns-then-not-is_sound c = unsound _ _ 10 _ _ _ _ _ (sym c.is_sound.ensures ∙ c.if-not-is_sound.true)
-
-pub returns-then-not-is_ready : goal.returns-then-not-is_ready
-unfolding view
-returns-then-not-is_ready c =
-    let e = (sym c.is_sound.ensures ∙ c.if-not-is_sound.false) in
-    refuses _ _ 10 _ _ _ _ _ e (sym (c.is_ready.ensures _ _ _ (card-told _ _ _ (search rules) (search rules) e).held.packets) ∙ c.if-not-is_ready.true)
+pub returns-in-Err : goal.returns-in-Err
+returns-in-Err c = rw c.refused.ensures (refuses _ _ _ 10 _ refl (sym c.in-Err.is ∙ c.ready.ensures) _ _ _ _ _)
 
 pub collisions-card-requires : goal.collisions-card-requires
 unfolding view
 collisions-card-requires c =
-    let s = card-told _ _ _ (search rules) (search rules) (sym c.is_sound.ensures ∙ c.if-not-is_sound.false) in
-    (s, ready-some _ c.args.c.transmit _ _ s.held.packets (sym (c.is_ready.ensures _ _ _ s.held.packets) ∙ c.if-not-is_ready.false))
+    let p = passed _ _ _ _ (sym c.in_default.is ∙ c.ready.ensures) in
+    let s = card-told _ _ _ (search rules) (search rules) p.0 in
+    (s, ready-some _ c.args.c.transmit _ _ s.held.packets p.1)
 
 pub returns : goal.returns
-unfolding view
 returns c =
-    let e = (sym c.is_sound.ensures ∙ c.if-not-is_sound.false) in
-    goes _ _ 10 _ _ _ _ _ _ _ _ _ e (sym (c.is_ready.ensures _ _ _ (card-told _ _ _ (search rules) (search rules) e).held.packets) ∙ c.if-not-is_ready.false) refl c.collisions-card.ensures
+    let p = passed _ _ _ _ (sym c.in_default.is ∙ c.ready.ensures) in
+    goes _ _ 10 _ _ _ _ _ _ _ _ _ p.0 p.1 refl c.collisions-card.ensures

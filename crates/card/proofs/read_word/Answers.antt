@@ -1,26 +1,25 @@
 -- `card::read_word` meets its contract: each way of its tests is one of the paper's. Assumes nothing.
 use borrow.Author.Rules.{rules}
-use mathlib.Core.Path.{ap, sym, ◌∙◌}
+use mathlib.Core.Path.{refl, ap, sym, ◌∙◌}
 use borrow.Author.Tests.{eqb-true}
 use Prim.Native.Nat.{◌%◌}
 use lib.Dec.{leb, eqb}
 use Rattle.bits.proofs.Tests.{both}
 use Rattle.card_rules.specs.Calls.{value}
 use Rattle.card_rules.proofs.Checked.{card-told}
-use Rattle.card_rules.proofs.Judged.{unsound, refuses, goes}
+use Rattle.card_rules.proofs.Judged.{passed, refuses, goes}
 use Rattle.card.proofs.read_word.Goals as goal
 
-pub returns-then-not-is_sound : goal.returns-then-not-is_sound
-returns-then-not-is_sound c = unsound _ _ 11 _ _ _ _ _ (sym c.is_sound.ensures ∙ c.if-not-is_sound.true)
-
-pub returns-then-not-is_word : goal.returns-then-not-is_word
-returns-then-not-is_word c = refuses _ _ 11 _ _ _ _ _ (sym c.is_sound.ensures ∙ c.if-not-is_sound.false) (sym c.is_word.ensures ∙ c.if-not-is_word.true)
+pub returns-in-Err : goal.returns-in-Err
+returns-in-Err c = rw c.refused.ensures (refuses _ _ _ 11 _ refl (sym c.in-Err.is ∙ c.word.ensures) _ _ _ _ _)
 
 pub read_word-got-requires : goal.read_word-got-requires
 read_word-got-requires c =
+    let p = passed _ _ _ _ (sym c.in_default.is ∙ c.word.ensures) in
     let o = c.args.o in
-    (card-told _ _ _ (search rules) (search rules) (sym c.is_sound.ensures ∙ c.if-not-is_sound.false), eqb-true (o % 2) 0 (both (leb o 15) (eqb (o % 2) 0) (sym c.is_word.ensures ∙ c.if-not-is_word.false)).1)
+    (card-told _ _ _ (search rules) (search rules) p.0, eqb-true (o % 2) 0 (both (leb o 15) (eqb (o % 2) 0) p.1).1)
 
 pub returns : goal.returns
 returns c =
-    goes _ _ 11 _ _ _ _ _ _ _ _ _ (sym c.is_sound.ensures ∙ c.if-not-is_sound.false) (sym c.is_word.ensures ∙ c.if-not-is_word.false) (ap value c.read_word-got.ensures.value) c.read_word-got.ensures.stands
+    let p = passed _ _ _ _ (sym c.in_default.is ∙ c.word.ensures) in
+    goes _ _ 11 _ _ _ _ _ _ _ _ _ p.0 p.1 (ap value c.read_word-got.ensures.value) c.read_word-got.ensures.stands

@@ -1,33 +1,40 @@
 -- `card::rx_status` meets its contract: it is refused by the test of soundness alone, and else tells the definition's word and count. Assumes nothing.
 use borrow.Author.Rules.{rules}
 use borrow.Author.Tests.{not-true, not-false}
-use mathlib.Core.Path.{refl, ap₂, ◌∙◌, sym}
+use mathlib.Core.Path.{refl, ◌∙◌, sym}
+use Rattle.std.proofs.lemmas.Result.{err_from_is_err_and}
 use Rattle.receive_rules.proofs.Count.{back}
 use Rattle.card_rules.specs.View.{view}
-use Rattle.card_rules.specs.declared.RxStatus.TheVariants.{Shows}
 use Rattle.card_rules.specs.RxStatus.{rx_word, rx_unread, rx_told}
 use Rattle.card_rules.proofs.Checked.{card-told}
+use Rattle.card_rules.proofs.Judged.{passed, told-unsound}
 use Rattle.card.proofs.rx_status.Goals as goal
 
-pub returns-then-not-is_sound : goal.returns-then-not-is_sound
+pub returns-in_err-sound : goal.returns-in_err-sound
 unfolding rx_told
-returns-then-not-is_sound c = rw (sym c.is_sound.ensures ∙ c.if-not-is_sound.true) refl
+returns-in_err-sound c =
+    let p = err_from_is_err_and c.from_residual.result c.from_residual.ensures.1 in
+    let q = told-unsound _ _ (sym c.in_err-sound.was ∙ c.sound.ensures) in
+    rw (p.1, p.2, q.0, q.1) refl
 
 pub returns-then-not-c : goal.returns-then-not-c
 unfolding rx_told rx_word rx_unread view
 returns-then-not-c c =
-    rw ((sym c.is_sound.ensures ∙ c.if-not-is_sound.false), not-true _ c.if-not-c.true) refl
+    let p = passed _ _ _ _ (sym c.in_ok-sound.was ∙ c.sound.ensures) in
+    rw (p.0, not-true _ c.if-not-c.true) refl
 
 pub rx_status-word-requires : goal.rx_status-word-requires
-rx_status-word-requires c = card-told _ _ _ (search rules) (search rules) (sym c.is_sound.ensures ∙ c.if-not-is_sound.false)
+rx_status-word-requires c =
+    let p = passed _ _ _ _ (sym c.in_ok-sound.was ∙ c.sound.ensures) in
+    card-told _ _ _ (search rules) (search rules) p.0
 
 pub unread-unread-requires : goal.unread-unread-requires
 unread-unread-requires c =
-    card-told _ _ _ (search rules) (search rules)
-    (sym c.is_sound.ensures ∙ c.if-not-is_sound.false)
+    let p = passed _ _ _ _ (sym c.in_ok-sound.was ∙ c.sound.ensures) in
+    card-told _ _ _ (search rules) (search rules) p.0
 
 pub returns : goal.returns
 unfolding rx_told rx_word rx_unread view
 returns c =
-    rw ((sym c.is_sound.ensures ∙ c.if-not-is_sound.false), not-false _ c.if-not-c.false)
-    (ap₂ Shows c.rx_status-word.ensures (back c.unread-unread.result c.unread-unread.type_inv ∙ c.unread-unread.ensures))
+    let p = passed _ _ _ _ (sym c.in_ok-sound.was ∙ c.sound.ensures) in
+    rw (p.0, not-false _ c.if-not-c.false, sym c.rx_status-word.ensures, sym (back c.unread-unread.result c.unread-unread.type_inv ∙ c.unread-unread.ensures)) refl

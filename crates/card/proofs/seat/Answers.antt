@@ -2,19 +2,18 @@
 use borrow.Author.Rules.{rules}
 use mathlib.Core.Path.{refl, sym, ◌∙◌}
 use Rattle.card_rules.proofs.Checked.{card-told}
-use Rattle.card_rules.proofs.Judged.{unsound, refuses, goes}
+use Rattle.card_rules.proofs.Judged.{passed, refuses, goes}
 use Rattle.card.proofs.seat.Goals as goal
 
-pub returns-then-not-is_sound : goal.returns-then-not-is_sound
-returns-then-not-is_sound c = unsound _ _ 0 _ _ _ _ _ (sym c.is_sound.ensures ∙ c.if-not-is_sound.true)
-
-pub returns-then-not-id_sound : goal.returns-then-not-id_sound
-returns-then-not-id_sound c = refuses _ _ 0 _ _ _ _ _ (sym c.is_sound.ensures ∙ c.if-not-is_sound.false) (sym c.id_sound.ensures ∙ c.if-not-id_sound.true)
+pub returns-in-Err : goal.returns-in-Err
+returns-in-Err c = rw c.refused.ensures (refuses _ _ _ 0 _ refl (sym c.in-Err.is ∙ c.seats.ensures) _ _ _ _ _)
 
 pub seat-card-requires : goal.seat-card-requires
 seat-card-requires c =
-    (card-told _ _ _ (search rules) (search rules) (sym c.is_sound.ensures ∙ c.if-not-is_sound.false), (sym c.id_sound.ensures ∙ c.if-not-id_sound.false))
+    let p = passed _ _ _ _ (sym c.in_default.is ∙ c.seats.ensures) in
+    (card-told _ _ _ (search rules) (search rules) p.0, p.1)
 
 pub returns : goal.returns
 returns c =
-    goes _ _ 0 _ _ _ _ _ _ _ _ _ (sym c.is_sound.ensures ∙ c.if-not-is_sound.false) (sym c.id_sound.ensures ∙ c.if-not-id_sound.false) refl c.seat-card.ensures
+    let p = passed _ _ _ _ (sym c.in_default.is ∙ c.seats.ensures) in
+    goes _ _ 0 _ _ _ _ _ _ _ _ _ p.0 p.1 refl c.seat-card.ensures

@@ -1,33 +1,29 @@
 -- Laws of words and lines: how far a search for a character has come, how a name is read, and what a line without a byte string spells. Assumes nothing.
-use Prim.Native.Nat.{ℕ, suc, ◌+◌, ◌-◌, ◌*◌, ◌/◌, ◌%◌, ◌≤◌, ◌<◌}
+use Prim.Native.Nat.{ℕ, ◌+◌, ◌-◌, ◌*◌, ◌/◌, ◌%◌, ◌≤◌, ◌<◌}
 use mathlib.Core.Path.{◌≡◌, refl, ap, sym, subst⁻¹, ◌∙◌}
 use mathlib.Core.Bool.{Bool, true, false, cond, ◌&&◌}
 use lib.Dec.{ltb, leb, eqb}
 use mathlib.Core.List.{List, [], ◌∷◌}
+use Rattle.std.specs.Prelude.{Option, Some, None}
+use Rattle.std.specs.Option.{MatchOption, unwrap_or}
+use Rattle.std.specs.List.{AllWithin, HoldsAt}
+use Rattle.std.proofs.lemmas.Iterator.{index_from_first}
 use native.Mathlib.Omega.{arith}
 use native.Mathlib.Numerals.{add-one}
 use borrow.Author.Tests.{le-leb, lt-leb, leb-true, eq-eqb, ne_eqb}
 use lib.ListN.{length, take, drop, get_or, drop_of_length-le, length-drop}
 use lib.Seq.{drop-cons, take-take, take_all}
 use Rattle.bench_rules.specs.Text.{is_hex, is_pairs, bytes_of, Paired}
-use Rattle.bench_rules.specs.declared.Spelled.TheVariants as spelled
 use Rattle.bench_rules.specs.declared.Kind.{Kind}
 use Rattle.bench_rules.specs.declared.Line.{Line}
 use Rattle.bench_rules.specs.declared.Kind.TheVariants as kind
 use Rattle.bench_rules.specs.Script.{is_of, reach_of, word_of, next_of, begun_of, key_on, key_of, kind_of, count_of, operand_of, flag_of, line_of, nothing_line, unknown_line, plain_line, number_line, pair_line, triple_line, flag_line, exact_line, counted_line, byte_line, numbers_line, operand_line, words_line, Spells, Means}
 
--- one character further
-pub reach_more : (class : ℕ) (s : List ℕ) (i : ℕ) → i < length s → is_of class (get_or s i 0) ≡ false → reach_of class (drop i s) ≡ suc (reach_of class (drop (i + 1) s))
+-- A search for the first character of a class answers how far it is.
+pub reach_first : (class : ℕ) (s : List ℕ) (r : Option ℕ) → MatchOption r (AllWithin (λ b. is_of class b ≡ false) s 0 (length s)) (λ i. (i < length s) × HoldsAt (λ b. is_of class b ≡ true) s i × AllWithin (λ b. is_of class b ≡ false) s 0 i) → reach_of class s ≡ unwrap_or r (length s)
 unfolding reach_of
-reach_more class s i h e = rw (drop-cons s i 0 h, e, add-one)
-
-pub reach_here : (class : ℕ) (s : List ℕ) (i : ℕ) → i < length s → is_of class (get_or s i 0) ≡ true → reach_of class (drop i s) ≡ 0
-unfolding reach_of
-reach_here class s i h e = rw (drop-cons s i 0 h, e)
-
-pub reach_end : (class : ℕ) (s : List ℕ) (i : ℕ) → length s ≤ i → reach_of class (drop i s) ≡ 0
-unfolding reach_of
-reach_end class s i h = rw (drop_of_length-le s h)
+reach_first class s r h =
+    index_from_first (reach_of class) (λ b. is_of class b ≡ true) (λ b. is_of class b ≡ false) refl (λ x xs e. rw e) (λ x xs e. rw (e, add-one)) s r h
 
 -- one character of a name more
 pub key_more : (n : ℕ) (s : List ℕ) (i : ℕ) → i < length s → n < 0x100000000000000 → key_on n (drop i s) ≡ key_on (n * 256 + get_or s i 0) (drop (i + 1) s)
@@ -64,32 +60,32 @@ next_law s n m e f =
 pub not_understood : {w r : Line} (one bytes : List ℕ) (room : ℕ) → r ≡ unknown_line → w ≡ unknown_line → length bytes ≡ room → Spells w one room r bytes
 not_understood one bytes room e f l = record { meaning = e ∙ sym f; spelled = rw e refl; fits = rw e (omega arith); long = l }
 
-was_wrong : (b : Bool) (n : ℕ) → spelled.Wrong ≡ cond b (spelled.Bytes n) spelled.Wrong → b ≡ false
+was_wrong : (b : Bool) (n : ℕ) → None ≡ cond b (Some n) None → b ≡ false
 was_wrong true n e = let z : ◌≡◌ {A = ℕ} 0 1 = cc in absurd (omega arith)
 was_wrong false n e = refl
 
-was_right : (b : Bool) (n m : ℕ) → spelled.Bytes m ≡ cond b (spelled.Bytes n) spelled.Wrong → (b ≡ true) × (m ≡ n)
+was_right : (b : Bool) (n m : ℕ) → Some m ≡ cond b (Some n) None → (b ≡ true) × (m ≡ n)
 was_right true n m e = (refl, cc)
 was_right false n m e = let z : ◌≡◌ {A = ℕ} 0 1 = cc in absurd (omega arith)
 
 -- A count that is not 1; a wrong digit; a byte string.
-pub miscounted : {r : Line} (k : Kind) (exact count : ℕ) (one bytes : List ℕ) → r ≡ unknown_line → (count ≡ 1 → ⊥) → Spells (byte_line k exact count (length bytes) one) one (length bytes) r bytes
+pub miscounted : {r : Line} (k : Kind) (exact : Option ℕ) (count : ℕ) (one bytes : List ℕ) → r ≡ unknown_line → (count ≡ 1 → ⊥) → Spells (byte_line k exact count (length bytes) one) one (length bytes) r bytes
 unfolding byte_line
 miscounted k exact count one bytes e h = not_understood one bytes (length bytes) e (rw (ne_eqb _ _ h)) refl
 
-pub misspelt : {r : Line} (k : Kind) (exact count room : ℕ) (one bytes : List ℕ) → r ≡ unknown_line → count ≡ 1 → Paired one room spelled.Wrong bytes → Spells (byte_line k exact count room one) one room r bytes
+pub misspelt : {r : Line} (k : Kind) (exact : Option ℕ) (count room : ℕ) (one bytes : List ℕ) → r ≡ unknown_line → count ≡ 1 → Paired one room None bytes → Spells (byte_line k exact count room one) one room r bytes
 unfolding byte_line
 misspelt k exact count room one bytes e h p = not_understood one bytes room e (rw (eq-eqb _ _ h, was_wrong (is_pairs room one) (length one / 2) p.answer)) p.long
 
 -- A byte string's line has its length, or is not understood and has none.
-counted_either : (P : ℕ → Type 0) (k : Kind) (exact n : ℕ) → P n → P 0 → P (counted_line k exact n).len
+counted_either : (P : ℕ → Type 0) (k : Kind) (exact : Option ℕ) (n : ℕ) → P n → P 0 → P (counted_line k exact n).len
 unfolding counted_line exact_line
-counted_either P k exact n a b = either (eqb exact 0) (eqb n exact)
+counted_either P k None n a b = a
+counted_either P k (Some exact) n a b = either (eqb n exact)
   where
-    either : (x y : Bool) → P (cond x (line_of k 0 0 0 n) (cond y (line_of k 0 0 0 n) unknown_line)).len
-    either true y = a
-    either false true = a
-    either false false = b
+    either : (x : Bool) → P (cond x (line_of k 0 0 0 n) unknown_line).len
+    either true = a
+    either false = b
 
 roomy : (x y z : Bool) → (x && (y && z)) ≡ true → y ≡ true
 roomy true true z e = refl
@@ -97,7 +93,7 @@ roomy true false z e = e
 roomy false true z e = refl
 roomy false false z e = e
 
-pub spelt : {r : Line} (k : Kind) (exact count room n : ℕ) (one bytes : List ℕ) → r ≡ counted_line k exact n → count ≡ 1 → Paired one room (spelled.Bytes n) bytes → Spells (byte_line k exact count room one) one room r bytes
+pub spelt : {r : Line} (k : Kind) (exact : Option ℕ) (count room n : ℕ) (one bytes : List ℕ) → r ≡ counted_line k exact n → count ≡ 1 → Paired one room (Some n) bytes → Spells (byte_line k exact count room one) one room r bytes
 unfolding byte_line is_pairs
 spelt {r} k exact count room n one bytes e h p =
     let q : (is_pairs room one ≡ true) × (n ≡ length one / 2) = was_right (is_pairs room one) (length one / 2) n p.answer in

@@ -31,11 +31,6 @@ pub as_said : {a b t t' : List ℕ} {at r s : ℕ} → Puts a at t t' r → a �
 as_said {a} {b} {t} {t'} {at} {r} {s} p e f =
     subst (λ (l : List ℕ). Puts l at t t' s) e (subst (λ (n : ℕ). Puts a at t t' n) f p)
 
--- the loop of `put`
-pub more : (s : List ℕ) (at i : ℕ) {t t' : List ℕ} → Puts (take i s) at t t' (at + i) → i < length s → at + length s ≤ length t → Puts (take (i + 1) s) at t (set t' (at + i) (get_or s i 0)) (at + (i + 1))
-more s at i {t} {t'} p h room =
-    as_said (on p (one (at + i) t' (get_or s i 0) (omega (arith, p.long)))) (sym (rw add-one (take-suc s i 0 h))) (omega arith)
-
 pub length-bytes : (s : List ℕ) → length (bytes_text s) ≡ 2 * length s
 unfolding bytes_text
 length-bytes [] = refl

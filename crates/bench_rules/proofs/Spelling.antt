@@ -1,16 +1,41 @@
 -- What the loops that read keep. Assumes nothing.
-use Prim.Native.Nat.{ℕ, suc, ◌+◌, ◌*◌, ◌/◌, ◌%◌, ◌≤◌, ◌<◌}
+use Prim.Native.Nat.{ℕ, zero, suc, ◌+◌, ◌*◌, ◌/◌, ◌%◌, ◌≤◌, ◌<◌}
 use mathlib.Core.Path.{◌≡◌, refl, ap, sym, ◌∙◌}
 use mathlib.Core.Bool.{Bool, true, false, cond, ◌&&◌}
 use mathlib.Core.List.{List, [], ◌∷◌, ◌++◌, append_assoc, append-nil}
 use native.Mathlib.Omega.{arith}
 use native.Mathlib.Numerals.{add-one}
+use Rattle.std.proofs.Math.Nat.{mul-suc}
 use borrow.Author.Tests.{le-leb, lt-leb, eq-eqb, ne_eqb}
 use lib.Dec.{eqb, leb}
 use lib.ListN.{length, take, drop, get_or, set, drop_of_length-le}
 use lib.Seq.{drop-cons, take-suc-set}
-use Rattle.bench_rules.specs.declared.Spelled.TheVariants.{Bytes, Wrong}
-use Rattle.bench_rules.specs.Text.{read_on, valued, value_of, is_hex, is_pairs, bytes_of, Paired}
+use Rattle.std.specs.Prelude.{Some, None}
+use Rattle.std.proofs.lemmas.Bool.Decides.{nat_tests}
+use Rattle.bench_rules.specs.Text.{none, below, read_on, valued, value_of, is_hex, is_pairs, bytes_of, Paired}
+
+-- ---- numbers with a limit
+
+pub over : (limit n : ℕ) → None ≡ below limit n → limit ≤ n
+over limit n e = grind (arith, nat_tests)
+
+pub under : (limit n d : ℕ) → Some d ≡ below limit n → (d ≡ n) × (d < limit)
+under limit n d e = grind (arith, nat_tests)
+
+-- What is no number stays none.
+valued_over : (base n b : ℕ) → none ≤ n → none ≤ valued base n b
+unfolding valued
+valued_over zero n b h = grind (arith, nat_tests)
+valued_over (suc k) n b h =
+    let g : n ≤ n * suc k = rw mul-suc (omega arith) in
+    grind (arith, nat_tests)
+
+pub read_over : (base n : ℕ) (s : List ℕ) → none ≤ n → none ≤ read_on base n s
+unfolding read_on
+read_over base n [] h = h
+read_over base n (b ∷ s) h = read_over base (valued base n b) s (valued_over base n b h)
+
+-- ---- loops
 
 -- One digit more is read.
 pub read_more : (base n : ℕ) (s : List ℕ) (i : ℕ) → i < length s → read_on base (valued base n (get_or s i 0)) (drop (i + 1) s) ≡ read_on base n (drop i s)
@@ -81,19 +106,19 @@ unfolding is_pairs
 unpaired s room h = rw h (both_false (eqb (length s % 2) 0) (leb (length s / 2) room))
 
 -- The four ends: an odd number of digits, too many, a wrong digit, all read.
-pub odd : (s out : List ℕ) → (length s % 2 ≡ 0 → ⊥) → Paired s (length out) Wrong out
+pub odd : (s out : List ℕ) → (length s % 2 ≡ 0 → ⊥) → Paired s (length out) None out
 unfolding is_pairs
 odd s out h = record { answer = rw (ne_eqb _ _ h); bytes = λ e. absurd (never (rw (ne_eqb _ _ h) at e)); long = refl }
 
-pub crowded : (s out : List ℕ) → (length s % 2 ≡ 0) → length out < length s / 2 → Paired s (length out) Wrong out
+pub crowded : (s out : List ℕ) → (length s % 2 ≡ 0) → length out < length s / 2 → Paired s (length out) None out
 unfolding is_pairs
 crowded s out h g = record { answer = rw (eq-eqb _ _ h, lt-leb _ _ g); bytes = λ e. absurd (never (rw (eq-eqb _ _ h, lt-leb _ _ g) at e)); long = refl }
 
-pub wrong : (s out out' : List ℕ) → length out' ≡ length out → is_hex s ≡ false → Paired s (length out) Wrong out'
+pub wrong : (s out out' : List ℕ) → length out' ≡ length out → is_hex s ≡ false → Paired s (length out) None out'
 unfolding is_pairs
 wrong s out out' l h = record { answer = rw (unpaired s (length out) h); bytes = λ e. absurd (never (sym (unpaired s (length out) h) ∙ e)); long = l }
 
-pub whole : (s out out' : List ℕ) (i : ℕ) → (length s % 2 ≡ 0) → length s / 2 ≤ length out → length out' ≡ length out → i ≡ length s / 2 → Reads s i out' → Paired s (length out) (Bytes (length s / 2)) out'
+pub whole : (s out out' : List ℕ) (i : ℕ) → (length s % 2 ≡ 0) → length s / 2 ≤ length out → length out' ≡ length out → i ≡ length s / 2 → Reads s i out' → Paired s (length out) (Some (length s / 2)) out'
 unfolding is_pairs
 whole s out out' i h g l e p =
     let a : (take i out' ≡ bytes_of s) × (is_hex s ≡ true) = reads_all s i out' p (omega arith) in

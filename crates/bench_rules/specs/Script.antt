@@ -1,5 +1,6 @@
 -- The language of the bench: which line asks for what. A line is a list of characters without its newline. Assumes nothing.
-use Rattle.std.specs.Prelude.{ℕ, suc, ◌+◌, ◌*◌, ◌/◌, ◌≤◌, ◌≡◌, Bool, cond, not, ◌||◌, List, [], ◌∷◌, length, take, drop, get_or, ltb, leb, eqb}
+use Rattle.std.specs.Prelude.{ℕ, suc, ◌+◌, ◌*◌, ◌/◌, ◌≤◌, ◌≡◌, Bool, cond, not, ◌||◌, Option, Some, None, List, [], ◌∷◌, length, take, drop, get_or, ltb, leb, eqb}
+use Rattle.std.specs.Option.{unwrap_or}
 use Rattle.bench_rules.specs.Text.{none, number_of, is_pairs, bytes_of}
 use Rattle.bench_rules.specs.declared.Kind.{Kind}
 use Rattle.bench_rules.specs.declared.Kind.TheVariants.{Nothing, Unknown, Power, Join, ReadWord, ReadByte, WriteWord, WriteByte, Start, Bytes, End, Sent, Collided, RxStatus, IdWrite, IdRead, Search, Activate, Open, Send, Service}
@@ -81,6 +82,10 @@ nothing_line = line_of Nothing 0 0 0 0
 abbrev pub unknown_line : Line
 unknown_line = line_of Unknown 0 0 0 0
 
+-- A line that may not be understood.
+abbrev pub or_unknown : Option Line → Line
+or_unknown l = unwrap_or l unknown_line
+
 -- How many words follow the first, from the lengths of what follows: 4 for more than three.
 unfoldable pub count_of : ℕ → ℕ → ℕ → ℕ → ℕ
 count_of one two three more = cond (eqb one 0) 0 (cond (eqb two 0) 1 (cond (eqb three 0) 2 (cond (eqb more 0) 3 4)))
@@ -132,14 +137,15 @@ flag_line count one =
     unknown_line)
     unknown_line
 
--- A byte string of n bytes: any number where `exact` is 0.
+-- A byte string of n bytes: as many as are wanted, or any number where none is.
 unfoldable pub exact_line : Kind → ℕ → ℕ → Line
 exact_line k exact n = cond (eqb n exact) (line_of k 0 0 0 n) unknown_line
 
-unfoldable pub counted_line : Kind → ℕ → ℕ → Line
-counted_line k exact n = cond (eqb exact 0) (line_of k 0 0 0 n) (exact_line k exact n)
+unfoldable pub counted_line : Kind → Option ℕ → ℕ → Line
+counted_line k None n = line_of k 0 0 0 n
+counted_line k (Some exact) n = exact_line k exact n
 
-unfoldable pub byte_line : Kind → ℕ → ℕ → ℕ → List ℕ → Line
+unfoldable pub byte_line : Kind → Option ℕ → ℕ → ℕ → List ℕ → Line
 byte_line k exact count room one =
     cond (eqb count 1)
     (cond (is_pairs room one) (counted_line k exact (length one / 2)) unknown_line)
@@ -173,14 +179,14 @@ numbers_line Service count one two three = number_line Service 10 count one
 unfoldable pub operand_line : Kind → ℕ → ℕ → List ℕ → List ℕ → List ℕ → Line
 operand_line Nothing count room one two three = numbers_line Nothing count one two three
 operand_line Unknown count room one two three = numbers_line Unknown count one two three
-operand_line Power count room one two three = byte_line Power 128 count room one
-operand_line Join count room one two three = byte_line Join 128 count room one
+operand_line Power count room one two three = byte_line Power (Some 128) count room one
+operand_line Join count room one two three = byte_line Join (Some 128) count room one
 operand_line ReadWord count room one two three = numbers_line ReadWord count one two three
 operand_line ReadByte count room one two three = numbers_line ReadByte count one two three
 operand_line WriteWord count room one two three = numbers_line WriteWord count one two three
 operand_line WriteByte count room one two three = numbers_line WriteByte count one two three
-operand_line Start count room one two three = byte_line Start 8 count room one
-operand_line Bytes count room one two three = byte_line Bytes 0 count room one
+operand_line Start count room one two three = byte_line Start (Some 8) count room one
+operand_line Bytes count room one two three = byte_line Bytes None count room one
 operand_line End count room one two three = numbers_line End count one two three
 operand_line Sent count room one two three = numbers_line Sent count one two three
 operand_line Collided count room one two three = numbers_line Collided count one two three
@@ -190,7 +196,7 @@ operand_line IdRead count room one two three = numbers_line IdRead count one two
 operand_line Search count room one two three = numbers_line Search count one two three
 operand_line Activate count room one two three = numbers_line Activate count one two three
 operand_line Open count room one two three = numbers_line Open count one two three
-operand_line Send count room one two three = byte_line Send 0 count room one
+operand_line Send count room one two three = byte_line Send None count room one
 operand_line Service count room one two three = numbers_line Service count one two three
 
 -- ---- lines

@@ -1,9 +1,11 @@
 -- Text and numbers. Text is a list of characters. Assumes nothing.
-use Rattle.std.specs.Prelude.{ℕ, zero, suc, ◌+◌, ◌-◌, ◌*◌, ◌/◌, ◌%◌, ◌≡◌, Bool, true, cond, ◌&&◌, List, [], ◌∷◌, ◌++◌, length, take, ltb, leb, eqb}
-use Rattle.bench_rules.specs.declared.Spelled.{Spelled}
-use Rattle.bench_rules.specs.declared.Spelled.TheVariants.{Bytes, Wrong}
+use Rattle.std.specs.Prelude.{ℕ, zero, suc, ◌+◌, ◌-◌, ◌*◌, ◌/◌, ◌%◌, ◌≡◌, Bool, true, cond, ◌&&◌, Option, Some, None, List, [], ◌∷◌, ◌++◌, length, take, ltb, leb, eqb}
 
 -- ---- reading
+
+-- A number below a limit; none from there on.
+abbrev pub below : ℕ → ℕ → Option ℕ
+below limit n = cond (ltb n limit) (Some n) None
 
 -- The value of a digit, 0 to 15, in either case; 16 for a character that is none.
 unfoldable pub value_of : ℕ → ℕ
@@ -50,8 +52,8 @@ bytes_of [] = []
 bytes_of (a ∷ []) = []
 bytes_of (a ∷ b ∷ s) = (value_of a * 16 + value_of b) ∷ bytes_of s
 
-pub record Paired (word : List ℕ) (room : ℕ) (r : Spelled) (out : List ℕ) : Type 0 where
-  pub answer : r ≡ cond (is_pairs room word) (Bytes (length word / 2)) Wrong
+pub record Paired (word : List ℕ) (room : ℕ) (r : Option ℕ) (out : List ℕ) : Type 0 where
+  pub answer : r ≡ cond (is_pairs room word) (Some (length word / 2)) None
   pub bytes : is_pairs room word ≡ true → take (length word / 2) out ≡ bytes_of word
   pub long : length out ≡ room
 

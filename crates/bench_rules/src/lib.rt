@@ -1,13 +1,6 @@
 #![tactic(auto)]
 // The bench's text: numbers and bytes as text, which line of a script asks for what, the answers as lines.
 
-// A byte string in hex: how many bytes, or not one.
-#[derive(Clone, Copy)]
-pub enum Spelled {
-    Bytes(usize),
-    Wrong,
-}
-
 // What the bench answers. Bytes and addresses stand beside it.
 #[derive(Clone, Copy)]
 pub enum Reply {

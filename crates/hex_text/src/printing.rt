@@ -3,6 +3,7 @@ ghost use Rattle.std.specs.Prelude.{◌≡◌, ◌+◌, ◌*◌, ◌≤◌, ◌<
 ghost use Rattle.bench_rules.specs.Text.{digit_of, byte_text, word_text, bytes_text, places_text, decimal_text, Puts};
 
 // A hex digit, upper case.
+#[tactic(auto, unfolding(bench_rules::specs::Text::digit_of))]
 pub fn digit(d: u16) -> u8
     requires { d < 16 }
     ensures { result ≡ digit_of d }
@@ -18,12 +19,9 @@ pub fn put(text: &mut [u8], at: usize, s: &[u8]) -> usize
     requires { at + length s.now ≤ length text.old }
     ensures { Puts s.now at text.old text.new result }
 {
-    let mut i: usize = 0;
-    while i < s.len() {
-        text[at + i] = s[i];
-        i += 1;
-    }
-    at + i
+    let next = at + s.len();
+    text[at..next].copy_from_slice(s);
+    next
 }
 
 // A byte as two digits.
@@ -31,9 +29,8 @@ pub fn put_byte(text: &mut [u8], at: usize, b: u8) -> usize
     requires { at + 2 ≤ length text.old }
     ensures { Puts (byte_text b) at text.old text.new result }
 {
-    let v = bits::wide(b);
-    text[at] = digit(v / 16);
-    text[at + 1] = digit(v % 16);
+    text[at] = digit(u16::from(b / 16));
+    text[at + 1] = digit(u16::from(b % 16));
     at + 2
 }
 
@@ -52,10 +49,8 @@ pub fn put_bytes(text: &mut [u8], at: usize, s: &[u8]) -> usize
     ensures { Puts (bytes_text s.now) at text.old text.new result × (result ≡ at + 2 * length s.now) }
 {
     let mut place = at;
-    let mut i: usize = 0;
-    while i < s.len() {
-        place = put_byte(text, place, s[i]);
-        i += 1;
+    for b in s {
+        place = put_byte(text, place, *b);
     }
     place
 }

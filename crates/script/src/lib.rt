@@ -14,8 +14,8 @@ pub fn parse(line: &[u8], bytes: &mut [u8]) -> Line
     ensures { Means line.now (length bytes.old) result bytes.new }
 {
     let first = words::begun(line);
-    if first.len() == 0 {
-        return operands::nothing();
+    if first.is_empty() {
+        return operands::bare(Kind::Nothing);
     }
     let one = words::next(first);
     let two = words::next(one);
@@ -31,4 +31,5 @@ pub fn parse(line: &[u8], bytes: &mut [u8]) -> Line
         words::word(three),
         bytes,
     )
+    .unwrap_or(operands::bare(Kind::Unknown))
 }

@@ -8,20 +8,15 @@ use bench_rules::Kind;
 pub fn key(word: &[u8]) -> u64
     ensures { result ≡ key_of word.now }
 {
-    if word.len() == 0 {
-        return 0;
-    }
-    if word[0] == 0 {
+    if word.is_empty() || word[0] == 0 {
         return 0;
     }
     let mut n: u64 = 0;
-    let mut i: usize = 0;
-    while i < word.len() {
+    for b in word {
         if n >= 0x100000000000000 {
             return 0;
         }
-        n = n * 256 + bits::wide(word[i]) as u64;
-        i += 1;
+        n = n * 256 + u64::from(*b);
     }
     n
 }

@@ -1,64 +1,57 @@
 // The words of a line. A blank is a space or a tab; a # starts a comment.
 ghost use Rattle.std.specs.Prelude.{◌≡◌, ◌≤◌, length};
-ghost use Rattle.bench_rules.specs.Script.{is_of, reach_of, word_of, next_of, begun_of};
+ghost use Rattle.bench_rules.specs.Script.{blank, reach_of, word_of, next_of, begun_of};
 
-const BLANK: u8 = 0;
-
-const LETTER: u8 = 1;
-
-const HASH: u8 = 2;
-
-// Whether a character is a blank, is none, or is the #.
-fn is(class: u8, b: u8) -> bool
-    ensures { result ≡ is_of class b }
+// Whether a character is a blank.
+fn is_blank(b: u8) -> bool
+    ensures { result ≡ blank b }
 {
-    if class == BLANK {
-        return (b == b' ') | (b == b'\t');
-    }
-    if class == LETTER {
-        return !((b == b' ') | (b == b'\t'));
-    }
-    b == b'#'
+    b == b' ' || b == b'\t'
 }
 
-// How far it is to the first character of a class; to the end if there is none.
-fn reach(s: &[u8], class: u8) -> usize
-    ensures { (result ≡ reach_of class s.now) × (result ≤ length s.now) }
+// How far it is to the first blank; to the end if there is none.
+fn to_blank(s: &[u8]) -> usize
+    ensures reach { result ≡ reach_of 0 s.now }
+    ensures within { result ≤ length s.now }
 {
-    let mut i: usize = 0;
-    while i < s.len() {
-        if is(class, s[i]) {
-            return i;
-        }
-        i += 1;
-    }
-    i
+    s.iter().position(|b| is_blank(*b)).unwrap_or(s.len())
+}
+
+// How far it is to the first character that is no blank; to the end if there is none.
+fn to_letter(s: &[u8]) -> usize
+    ensures reach { result ≡ reach_of 1 s.now }
+    ensures within { result ≤ length s.now }
+{
+    s.iter().position(|b| !is_blank(*b)).unwrap_or(s.len())
+}
+
+// How far it is to the first #; to the end if there is none.
+fn to_hash(s: &[u8]) -> usize
+    ensures reach { result ≡ reach_of 2 s.now }
+    ensures within { result ≤ length s.now }
+{
+    s.iter().position(|b| *b == b'#').unwrap_or(s.len())
 }
 
 // The word at the front.
 pub fn word(s: &[u8]) -> &[u8]
     ensures { result.now ≡ word_of s.now }
 {
-    let n = reach(s, BLANK);
-    &s[..n]
+    &s[..to_blank(s)]
 }
 
 // From the next word on.
 pub fn next(s: &[u8]) -> &[u8]
     ensures { result.now ≡ next_of s.now }
 {
-    let n = reach(s, BLANK);
-    let rest = &s[n..];
-    let m = reach(rest, LETTER);
-    &rest[m..]
+    let rest = &s[to_blank(s)..];
+    &rest[to_letter(rest)..]
 }
 
 // From the first word on, without the comment.
 pub fn begun(s: &[u8]) -> &[u8]
     ensures { result.now ≡ begun_of s.now }
 {
-    let n = reach(s, HASH);
-    let text = &s[..n];
-    let m = reach(text, LETTER);
-    &text[m..]
+    let text = &s[..to_hash(s)];
+    &text[to_letter(text)..]
 }

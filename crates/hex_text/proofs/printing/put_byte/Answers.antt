@@ -9,4 +9,4 @@ bounds-text-at-2 c = simp length-set (omega arith)
 
 pub returns : goal.returns
 returns c =
-    rw (c.digit-2.ensures, c.digit.ensures, c.wide-v.ensures.0) (law.two c.args.at c.args.text.now _ _ c.requires)
+    rw (c.digit-2.ensures, c.digit.ensures, c.from.ensures, c.from-2.ensures) (law.two c.args.at c.args.text.now _ _ c.requires)

@@ -1,27 +1,35 @@
 -- `reading::number` meets its contract: what is read so far and what is still to come make the number. Assumes nothing.
-use mathlib.Core.Path.{refl, ◌∙◌}
-use native.Mathlib.Omega.{arith}
-use borrow.Author.Tests.{eq-eqb, ne_eqb, lt-ltb, le-ltb}
-use Rattle.bench_rules.specs.Text.{number_of}
-use Rattle.bench_rules.proofs.Spelling.{read_more, read-end}
+use Rattle.std.proofs.Common.{◌≡◌, ℕ, List, ◌∙◌, refl, length, drop, ◌+◌, ◌≤◌, arith}
+use Rattle.std.proofs.lemmas.Bool.Decides.{nat_tests}
+use Rattle.bench_rules.specs.Text.{none, number_of, read_on}
+use Rattle.bench_rules.proofs.Spelling.{read_more, read-end, read_over, over, under}
 use Rattle.hex_text.proofs.reading.number.Goals as goal
 
-pub returns-then-word-eq0 : goal.returns-then-word-eq0
+-- a word that is not empty, in a base that there is
+read_whole : (base n : ℕ) (s : List ℕ) → (length s ≡ 0 → ⊥) → base ≤ 16 → n ≡ read_on base 0 s → number_of base s ≡ n
 unfolding number_of
-returns-then-word-eq0 c = (rw (eq-eqb _ _ c.if-word-eq0.true), omega arith)
+read_whole base n s h g e = grind (arith, nat_tests)
 
-pub returns-then-base-gt16 : goal.returns-then-base-gt16
-unfolding number_of
-returns-then-base-gt16 c = (rw (ne_eqb _ _ c.if-word-eq0.false, lt-ltb _ _ c.if-base-gt16.true), omega arith)
+pub returns-in_err-n : goal.returns-in_err-n
+returns-in_err-n c =
+    let w = c.args.word.now in
+    let i = c.loop-b.b-index in
+    let h = read_over c.args.base _ (drop (i + 1) w) (over none _ c.in_err-n.ensures) in
+    let e = read_more c.args.base c.loop-b.n w i c.loop-b-test.true ∙ c.loop-b.invariant.1 in
+    let g : none ≤ read_on c.args.base 0 w = rw e at h in
+    let f = read_whole c.args.base (read_on c.args.base 0 w) w (λ z. omega arith) c.if-base-gt16.false refl in
+    rw f (grind (arith, nat_tests, c.from_residual.ensures))
 
-pub loop-i-init : goal.loop-i-init
-loop-i-init c = (omega arith, (omega arith, refl))
+pub loop-b-preserved : goal.loop-b-preserved
+loop-b-preserved c =
+    let u = under none _ _ c.in_ok-n.ensures in
+    (u.1, rw u.0 (read_more c.args.base c.loop-b.n c.args.word.now c.loop-b.b-index c.loop-b-test.true ∙ c.loop-b.invariant.1))
 
-pub loop-i-preserved : goal.loop-i-preserved
-loop-i-preserved c =
-    (omega arith, (omega (arith, c.more-n.ensures.1), rw c.more-n.ensures.0 (read_more c.args.base c.loop-i.n c.args.word.now c.loop-i.i c.loop-i-test.true ∙ c.loop-i.invariant.1.1)))
+pub loop-b-init : goal.loop-b-init
+loop-b-init c = (omega arith, refl)
 
 pub returns : goal.returns
-unfolding number_of
 returns c =
-    (rw (ne_eqb _ _ c.if-word-eq0.false, le-ltb _ _ c.if-base-gt16.false) (read-end c.args.base c.loop-i.n c.args.word.now c.loop-i.i c.loop-i-test.false ∙ c.loop-i.invariant.1.1), c.loop-i.invariant.1.0)
+    let w = c.args.word.now in
+    let f = read_whole c.args.base c.loop-b.n w (λ z. grind (arith, z, c.if-is_empty.ensures)) c.if-base-gt16.false (read-end c.args.base c.loop-b.n w c.loop-b.b-index c.loop-b-test.false ∙ c.loop-b.invariant.1) in
+    rw f (grind (arith, nat_tests))

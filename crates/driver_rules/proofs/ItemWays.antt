@@ -1,5 +1,5 @@
 -- Each way through a report and a fetch is the run of its tree. `access` stays shut. Assumes nothing.
-use Rattle.std.specs.Prelude.{Result, Ok, Err}
+use Rattle.std.specs.Prelude.{Result, Ok, Err, Some}
 use mathlib.Core.Path.{◌≡◌, refl}
 use mathlib.Core.Bool.{Bool, true, false, cond, ◌||◌, ◌&&◌}
 use mathlib.Core.List.{List, [], ◌∷◌, ◌++◌}
@@ -29,18 +29,18 @@ abbrev pub ran : Serving → List Access → Adapter → Ran Serving
 ran x m s = record { answer = x; made = m; adapter = s }
 
 -- an answer of the code
-abbrev pub answered : Driver → Card → Result Item Refusal → ℕ → Bool → Served
-answered d c x left paused = record { driver = d; card = c; answer = x; left = left; paused = paused }
+abbrev pub answered : Driver → Card → Result Item Refusal → ℕ → Served
+answered d c x left = record { driver = d; card = c; answer = Some x; left = left }
 
 -- a run that hands nothing up is at its end
 pub stops : (left : ℕ) (R : Ran Serving) (x : Result Item Refusal) (d : Driver) (m : List Access) (s : Adapter) (c : Card) (more : ℕ)
-    → R ≡ ran (plain x d) m s → length m + more ≡ left → Tells left R (answered d c x more false) s
+    → R ≡ ran (plain x d) m s → length m + more ≡ left → Tells left R (answered d c x more) s
 unfolding in_look in_frame
-stops left R x d m s c more e n l f = rw e (record { answer = refl; driver = refl; count = n; adapter = refl; look = refl; frame = refl; ended = refl })
+stops left R x d m s c more e n l f = rw e (record { answer = refl; driver = refl; count = n; adapter = refl; look = refl; frame = refl })
 
 -- ---- report
 
-pub report_short : (left : ℕ) (d : Driver) (c : Card) (s : Adapter) → left < 4 → Tells left (run (report_talk left d) s) (answered d c (Err BudgetShort) left false) s
+pub report_short : (left : ℕ) (d : Driver) (c : Card) (s : Adapter) → left < 4 → Tells left (run (report_talk left d) s) (answered d c (Err BudgetShort) left) s
 unfolding run report_talk
 report_short left d c s h = stops left _ (Err BudgetShort) d [] s c left (rw (lt-ltb left 4 h)) (omega arith)
 
@@ -67,15 +67,15 @@ no_bytes v d = plains (ltb 0 d.unreported) _ _ refl refl
 -- what a report tells
 pub told : (left : ℕ) (R : Ran Serving) (v : ℕ) (d : Driver) (m : List Access) (s : Adapter) (c : Card) (more : ℕ)
     → R ≡ ran (reports v d) m s → length m + more ≡ left
-    → Tells left R (answered (reports v d).driver c (reports v d).answer more false) s
+    → Tells left R (answered (reports v d).driver c (reports v d).answer more) s
 unfolding in_look in_frame
 told left R v d m s c more e n l f =
-    rw e (record { answer = refl; driver = refl; count = n; adapter = refl; look = rw (no_bytes v d); frame = rw (no_bytes v d); ended = refl })
+    rw e (record { answer = refl; driver = refl; count = n; adapter = refl; look = rw (no_bytes v d); frame = rw (no_bytes v d) })
 
 -- ---- fetch
 
 module _ (left : ℕ) (d : Driver) (n : ℕ) (s : Adapter) where
-  pub fetch_short : (c : Card) (l f : List ℕ) → left < (n + 1) / 2 + 1 → Ended left (run (fetch_talk left d n) s) (answered d c (Err BudgetShort) left false) s l f l f
+  pub fetch_short : (c : Card) (l f : List ℕ) → left < (n + 1) / 2 + 1 → Ended left (run (fetch_talk left d n) s) (answered d c (Err BudgetShort) left) s l f l f
   unfolding run fetch_talk
   fetch_short c l f h = stops left _ (Err BudgetShort) d [] s c left (rw (lt-ltb left ((n + 1) / 2 + 1) h)) (omega arith) l f
 
@@ -98,15 +98,15 @@ module _ (left : ℕ) (d : Driver) (n : ℕ) (s : Adapter) where
     made-size = simp (length-append, length-replicate) (omega arith)
 
     pub fetch_look : (c : Card) (l' : List ℕ) → n ≤ 256 → l' ≡ body ++ drop n l
-        → Ended left (run (fetch_talk left d n) s) (answered d c (Ok (Frame n)) (left - ((n + 1) / 2 + 1)) false) s₃ l f l' f
+        → Ended left (run (fetch_talk left d n) s) (answered d c (Ok (Frame n)) (left - ((n + 1) / 2 + 1))) s₃ l f l' f
     unfolding in_look in_frame
     fetch_look c l' h e =
         rw fetched
-        (record { answer = refl; driver = refl; count = omega (arith, made-size); adapter = refl; look = rw (body_size, le-leb n 256 h) e; frame = rw (body_size, le-leb n 256 h); ended = refl })
+        (record { answer = refl; driver = refl; count = omega (arith, made-size); adapter = refl; look = rw (body_size, le-leb n 256 h) e; frame = rw (body_size, le-leb n 256 h) })
 
     pub fetch_frame : (c : Card) (f' : List ℕ) → 256 < n → f' ≡ body ++ drop n f
-        → Ended left (run (fetch_talk left d n) s) (answered d c (Ok (Frame n)) (left - ((n + 1) / 2 + 1)) false) s₃ l f l f'
+        → Ended left (run (fetch_talk left d n) s) (answered d c (Ok (Frame n)) (left - ((n + 1) / 2 + 1))) s₃ l f l f'
     unfolding in_look in_frame
     fetch_frame c f' h e =
         rw fetched
-        (record { answer = refl; driver = refl; count = omega (arith, made-size); adapter = refl; look = rw (body_size, lt-leb n 256 h); frame = rw (body_size, lt-leb n 256 h) e; ended = refl })
+        (record { answer = refl; driver = refl; count = omega (arith, made-size); adapter = refl; look = rw (body_size, lt-leb n 256 h); frame = rw (body_size, lt-leb n 256 h) e })

@@ -1,10 +1,12 @@
 -- Refused with no discard made, a part of a service changes nothing: Status and RX Status are read from a sound card, which stays as it was, and an item that lacks its accesses isn't begun.
 -- Assumes nothing.
+use Rattle.std.specs.Prelude.{Result, Option, Some, None}
 use mathlib.Core.Path.{◌≡◌, refl, sym, ap, ◌∙◌}
-use mathlib.Core.Bool.{false, ◌&&◌}
+use mathlib.Core.Bool.{Bool, true, false, ◌&&◌}
 use mathlib.Core.List.{List, [], ◌∷◌}
 use Prim.Native.Nat.{ℕ}
 use lib.Dec.{ltb, eqb}
+use Rattle.refusal.specs.declared.Refusal.{Refusal}
 use Rattle.bits.proofs.Tests.{by_test, never, of_cond}
 use Rattle.card_rules.specs.declared.Card.{Card}
 use Rattle.card_rules.specs.Adapter.{Adapter}
@@ -14,7 +16,7 @@ use Rattle.card_rules.specs.Access.{ReadWord, WriteWord, step, access}
 use Rattle.card_rules.specs.Gives.{Gives}
 use Rattle.card_rules.proofs.StepEnds.{gives-word, stands-ones}
 use Rattle.driver_rules.specs.declared.Driver.{Driver}
-use Rattle.driver_rules.specs.declared.Served.{Served}
+use Rattle.driver_rules.specs.declared.Item.{Item}
 use Rattle.driver_rules.specs.Talk.{Ran, extended}
 use Rattle.driver_rules.specs.Items.{Serving, reports}
 use Rattle.driver_rules.specs.Meets.{Ended}
@@ -31,6 +33,11 @@ pub as_came : (o : ℕ) (c : Card) (ram dir : List ℕ) {r : Card} {v : ℕ} →
     → Gives r v ram dir (access (ReadWord o) (view c ram dir)) → access (ReadWord o) (view c ram dir) ≡ step v (view c ram dir)
 as_came o c ram dir n s g = λ i. record { value = sym g.value i; adapter = reads_still o c ram dir n s i }
 
+-- an answer that is there is a refusal
+abbrev stops_with : Option (Result Item Refusal) → Bool
+stops_with None = true
+stops_with (Some x) = stopped x
+
 -- a report is no refusal
 pub report_goes : (status : ℕ) (d : Driver) → stopped (reports status d).answer ≡ false
 unfolding reports
@@ -42,8 +49,9 @@ stays R c ram dir = record { same = λ _ _. (refl, (refl, refl)) }
 
 module _ (c r : Card) (ram dir ram' dir' : List ℕ) where
   -- an item that is begun is no refusal
-  pub begun : {left : ℕ} {R : Ran Serving} {x : Served} {s : Adapter} {l₀ f₀ l f : List ℕ} → Ended left R x s l₀ f₀ l f → stopped x.answer ≡ false → Unmoved R c r ram dir ram' dir'
-  begun t e = record { same = λ y _. never (sym (sym (ap stopped t.answer) ∙ e) ∙ y) }
+  pub begun : {left more : ℕ} {R : Ran Serving} {d : Driver} {e : Card} {x : Result Item Refusal} {s : Adapter} {l₀ f₀ l f : List ℕ}
+      → Ended left R (record { driver = d; card = e; answer = Some x; left = more }) s l₀ f₀ l f → stopped x ≡ false → Unmoved R c r ram dir ram' dir'
+  begun t g = record { same = λ y _. never (sym (sym (ap stops_with t.answer) ∙ g) ∙ y) }
 
   -- a word was read before
   pub after_read_lem : (R Q : Ran Serving) (o : ℕ) → R ≡ extended (ReadWord o ∷ []) Q → Unmoved Q c r ram dir ram' dir' → Unmoved R c r ram dir ram' dir'

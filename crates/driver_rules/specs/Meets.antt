@@ -1,5 +1,5 @@
 -- What the contracts say of a run, and of a part of one. Assumes nothing.
-use Rattle.std.specs.Prelude.{◌≡◌, false, List, ◌++◌, ℕ, ◌≤◌, ◌+◌, length, take, drop}
+use Rattle.std.specs.Prelude.{◌≡◌, Some, List, ◌++◌, ℕ, ◌≤◌, ◌+◌, length, take, drop}
 use Rattle.card_rules.specs.declared.Card.{Card}
 use Rattle.card_rules.specs.Adapter.{Adapter}
 use Rattle.card_rules.specs.View.{Sound, Stands}
@@ -21,13 +21,12 @@ pub record Read (n : ℕ) (s : Adapter) (r : Card) (ram dir area₀ area : List 
 
 -- The run R has come to its end in r.
 pub record Ended (left : ℕ) (R : Ran Serving) (r : Served) (s : Adapter) (l₀ f₀ l f : List ℕ) : Type 0 where
-  pub answer : r.answer ≡ R.answer.answer
+  pub answer : r.answer ≡ Some R.answer.answer
   pub driver : r.driver ≡ R.answer.driver
   pub count : length R.made + r.left ≡ left
   pub adapter : s ≡ R.adapter
   pub look : l ≡ in_look R.answer.bytes l₀
   pub frame : f ≡ in_frame R.answer.bytes f₀
-  pub ended : r.paused ≡ false
 
 -- .. and hands up no bytes, whatever the areas
 abbrev pub Tells : ℕ → Ran Serving → Served → Adapter → Type 0

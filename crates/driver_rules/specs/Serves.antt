@@ -1,5 +1,5 @@
 -- What the contracts say of a part of a service. Assumes nothing.
-use Rattle.std.specs.Prelude.{◌≡◌, Bool, true, false, ◌&&◌, ◌||◌, List, [], ◌∷◌, ℕ, ◌<◌, ◌+◌, length, eqb, Result, Ok, Err}
+use Rattle.std.specs.Prelude.{◌≡◌, Bool, true, false, ◌&&◌, ◌||◌, List, [], ◌∷◌, ℕ, ◌<◌, ◌+◌, length, eqb, Result, Ok, Err, Option, Some, None}
 use Rattle.refusal.specs.declared.Refusal.{Refusal}
 use Rattle.card_rules.specs.declared.Card.{Card}
 use Rattle.card_rules.specs.Adapter.{Adapter}
@@ -42,9 +42,9 @@ pub record Paused (left : ℕ) (R : Ran Serving) (r : Served) (s : Adapter) (l�
   pub look : l ≡ l₀
   pub frame : f ≡ f₀
 
-unfoldable pub Meets : Bool → ℕ → Ran Serving → Served → Adapter → List ℕ → List ℕ → List ℕ → List ℕ → Type 0
-Meets false left R r s l₀ f₀ l f = Ended left R r s l₀ f₀ l f
-Meets true left R r s l₀ f₀ l f = Paused left R r s l₀ f₀ l f
+unfoldable pub Meets : Option (Result Item Refusal) → ℕ → Ran Serving → Served → Adapter → List ℕ → List ℕ → List ℕ → List ℕ → Type 0
+Meets (Some x) left R r s l₀ f₀ l f = Ended left R r s l₀ f₀ l f
+Meets None left R r s l₀ f₀ l f = Paused left R r s l₀ f₀ l f
 
 -- Refused with nothing finished, no discard made, a part of a service leaves card and memory byte for byte as they came.
 pub record Unmoved (R : Ran Serving) (c r : Card) (ram dir ram' dir' : List ℕ) : Type 0 where

@@ -53,14 +53,13 @@ pub enum Item {
     Idle,
 }
 
-// What a part of a service leaves. Paused, it goes on with a look at the accesses left.
+// What a part of a service leaves, and what it answers. With no answer it is paused, and goes on with a look at the accesses left.
 #[derive(Clone, Copy)]
 pub struct Served {
     pub driver: Driver,
     pub card: Card,
-    pub answer: Result<Item, Refusal>,
+    pub answer: Option<Result<Item, Refusal>>,
     pub left: usize,
-    pub paused: bool,
 }
 
 // Card and driver after a service, what it answers, and the accesses used.

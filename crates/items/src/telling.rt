@@ -1,5 +1,5 @@
 // What the items of a service answer and leave: a refusal for want of accesses, any other end, the report of a packet.
-ghost use Rattle.std.specs.Prelude.{◌≡◌, false, Err};
+ghost use Rattle.std.specs.Prelude.{◌≡◌, Err, Some};
 ghost use Rattle.refusal.specs.declared.Refusal.TheVariants.{BudgetShort};
 ghost use Rattle.driver_rules.specs.Driver.{with_error};
 ghost use Rattle.driver_rules.specs.Items.{reports};
@@ -10,21 +10,20 @@ use refusal::Refusal;
 
 // Budget short: what lacks its accesses isn't begun.
 pub fn short(c: Card, d: Driver, left: usize) -> Served
-    ensures { result ≡ record { driver = d; card = c; answer = Err BudgetShort; left = left; paused = false } }
+    ensures { result ≡ record { driver = d; card = c; answer = Some (Err BudgetShort); left = left } }
 {
     ended(c, d, Err(Refusal::BudgetShort), left)
 }
 
 // An item has come to its end.
 pub fn ended(c: Card, d: Driver, answer: Result<Item, Refusal>, left: usize) -> Served
-    ensures { result ≡ record { driver = d; card = c; answer = answer; left = left; paused = false } }
+    ensures { result ≡ record { driver = d; card = c; answer = Some answer; left = left } }
 {
     Served {
         driver: d,
         card: c,
-        answer,
+        answer: Some(answer),
         left,
-        paused: false,
     }
 }
 
@@ -37,7 +36,7 @@ pub fn with_error(d: Driver, error: bool) -> Driver
 
 // The oldest unreported ticket and the status, or the status alone.
 pub fn told(c: Card, d: Driver, status: u16, left: usize) -> Served
-    ensures { result ≡ record { driver = (reports status d).driver; card = c; answer = (reports status d).answer; left = left; paused = false } }
+    ensures { result ≡ record { driver = (reports status d).driver; card = c; answer = Some (reports status d).answer; left = left } }
 {
     let waiting = d.unreported;
     if 0 < waiting {

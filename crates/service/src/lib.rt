@@ -7,7 +7,7 @@ ghost use Rattle.driver_rules.specs.Service.{look_talk, receive_talk};
 ghost use Rattle.driver_rules.specs.Serves.{Meets, Unmoved};
 
 use card_rules::Card;
-use driver_rules::{Answer, Driver, Served};
+use driver_rules::{Driver, Served};
 use refusal::Refusal;
 
 pub mod serving; // serving.rt: a whole service: look and receive, begun again where they paused, until an item is found or the budget is short
@@ -28,7 +28,7 @@ pub fn look(
     turns: usize,
 ) -> Served
     requires { Ready c ram.old dir.old ahead.old frame.old }
-    ensures { Meets result.paused left (run (look_talk left d) (view c ram.old dir.old)) result (view result.card ram.new dir.new) ahead.old frame.old ahead.new frame.new × (Sound result.card ram.new dir.new × Unmoved (run (look_talk left d) (view c ram.old dir.old)) c result.card ram.old dir.old ram.new dir.new) }
+    ensures { Meets result.answer left (run (look_talk left d) (view c ram.old dir.old)) result (view result.card ram.new dir.new) ahead.old frame.old ahead.new frame.new × (Sound result.card ram.new dir.new × Unmoved (run (look_talk left d) (view c ram.old dir.old)) c result.card ram.old dir.old ram.new dir.new) }
 {
     if left == 0 {
         return items::short(c, d, 0);
@@ -36,7 +36,7 @@ pub fn look(
     let got = steps::read_word(ram, dir, c, driver_rules::STATUS);
     let status = got.value;
     if judge::is_unfit(status) {
-        return items::ended(c, d, Answer::Refused(Refusal::CardUnfit), left - 1);
+        return items::ended(c, d, Err(Refusal::CardUnfit), left - 1);
     }
     if judge::is_tx_complete(status) {
         return items::report(ram, dir, c, d, left - 1);
@@ -61,7 +61,7 @@ fn receive(
     turns: usize,
 ) -> Served
     requires { Ready c ram.old dir.old ahead.old frame.old }
-    ensures { Meets result.paused left (run (receive_talk left d) (view c ram.old dir.old)) result (view result.card ram.new dir.new) ahead.old frame.old ahead.new frame.new × (Sound result.card ram.new dir.new × Unmoved (run (receive_talk left d) (view c ram.old dir.old)) c result.card ram.old dir.old ram.new dir.new) }
+    ensures { Meets result.answer left (run (receive_talk left d) (view c ram.old dir.old)) result (view result.card ram.new dir.new) ahead.old frame.old ahead.new frame.new × (Sound result.card ram.new dir.new × Unmoved (run (receive_talk left d) (view c ram.old dir.old)) c result.card ram.old dir.old ram.new dir.new) }
 {
     if left == 0 {
         return items::short(c, d, 0);
@@ -77,13 +77,11 @@ fn receive(
             return Served {
                 driver: d,
                 card: dropped,
-                answer: Answer::Idle,
+                answer: None,
                 left: left - 2,
-                paused: true,
             };
         }
         return look(ram, dir, dropped, d, ahead, frame, left - 2, turns - 1);
     }
-    let n = judge::length(rx);
-    items::fetch(ram, dir, c, d, ahead, frame, left - 1, n)
+    items::fetch(ram, dir, c, d, ahead, frame, left - 1, judge::length(rx))
 }

@@ -7,7 +7,7 @@ ghost use Rattle.driver_rules.specs.Serves.{Unmoved};
 ghost use Rattle.driver_rules.specs.Serving.{Serves};
 
 use card_rules::Card;
-use driver_rules::{Answer, Driver, Serviced};
+use driver_rules::{Driver, Serviced};
 
 // The turns that look and receive take before they pause: they bound the stack.
 const TURNS: usize = 256;
@@ -30,20 +30,16 @@ pub fn serve(
     let mut left = budget;
     loop {
         let s = crate::look(ram, dir, at, driver, ahead, frame, left, TURNS);
-        let next = s.driver;
-        let after = s.card;
-        let answer = s.answer;
-        let rest = s.left;
-        if !s.paused {
+        if let Some(answer) = s.answer {
             return Serviced {
-                card: after,
-                driver: next,
-                answer: answer,
-                used: budget - rest,
+                card: s.card,
+                driver: s.driver,
+                answer,
+                used: budget - s.left,
             };
         }
-        driver = next;
-        at = after;
-        left = rest;
+        driver = s.driver;
+        at = s.card;
+        left = s.left;
     }
 }

@@ -120,7 +120,7 @@ receive-shape_of-dir-then-turns-eq0 t c =
 
 pub receive-returns-then-turns-eq0 : goal.receive-returns-then-turns-eq0
 receive-returns-then-turns-eq0 t c =
-    let e = unmoved.as_came 8 _ _ _ refl c.requires.sound c.read_word-got.ensures in let w = sym c.is_bad.ensures ∙ c.if-is_bad.true in let x = wrote _ c.discard-dropped.ensures in (ways.receive_pause c.args.left _ _ _ _ c.if-left-eq0.false _ _ e w c.if-left-eq1.false _ _ x _ _, (c.discard-dropped.ensures.sound, unmoved.after-discard _ _ _ _ _ _ _ _ (ways.dropped c.args.left _ _ [] [] c.if-left-eq0.false _ _ e w c.if-left-eq1.false _ _ x)))
+    let e = unmoved.as_came 8 _ _ _ refl c.requires.sound c.read_word-got.ensures in let w = sym c.is_bad.ensures ∙ c.if-is_bad.true in let x = wrote _ c.discard-dropped.ensures in (ways.receive_pause c.args.left _ _ _ _ c.if-left-eq0.false _ _ e w c.if-left-eq1.false _ _ x _, (c.discard-dropped.ensures.sound, unmoved.after-discard _ _ _ _ _ _ _ _ (ways.dropped c.args.left _ _ [] [] c.if-left-eq0.false _ _ e w c.if-left-eq1.false _ _ x)))
 
 pub receive-overflow_sub-left : goal.receive-overflow_sub-left
 receive-overflow_sub-left t c =
@@ -150,7 +150,7 @@ receive-overflow_sub-left-2 t c = omega (arith, c.if-left-eq0.false)
 
 pub receive-fetch-requires : goal.receive-fetch-requires
 receive-fetch-requires t c =
-    (record { sound = c.requires.sound; look = c.requires.look; frame = c.requires.frame }, ways.good-size c.read_word-got.result.value _ (sym c.is_bad.ensures ∙ c.if-is_bad.false) c.length-n.ensures)
+    (record { sound = c.requires.sound; look = c.requires.look; frame = c.requires.frame }, ways.good-size c.read_word-got.result.value _ (sym c.is_bad.ensures ∙ c.if-is_bad.false) c.length.ensures)
 
 pub receive-shape_of-ram : goal.receive-shape_of-ram
 receive-shape_of-ram t c =
@@ -162,4 +162,4 @@ receive-shape_of-dir t c =
 
 pub receive-returns : goal.receive-returns
 receive-returns t c =
-    let e = unmoved.as_came 8 _ _ _ refl c.requires.sound c.read_word-got.ensures in let w = sym c.is_bad.ensures ∙ c.if-is_bad.false in let n = c.length-n.ensures in (ways.receive_fetch c.args.left _ _ _ _ c.if-left-eq0.false _ _ e _ _ _ _ _ w n c.fetch.ensures.0, (c.fetch.ensures.1.0, unmoved.after_read_lem _ _ _ _ _ _ _ _ 8 (ways.receives_good _ _ _ _ c.args.left _ c.if-left-eq0.false e w n) c.fetch.ensures.1.1))
+    let e = unmoved.as_came 8 _ _ _ refl c.requires.sound c.read_word-got.ensures in let w = sym c.is_bad.ensures ∙ c.if-is_bad.false in let n = c.length.ensures in (ways.receive_fetch c.args.left _ _ _ _ c.if-left-eq0.false _ _ e _ _ _ _ _ w n c.fetch.ensures.0, (c.fetch.ensures.1.0, unmoved.after_read_lem _ _ _ _ _ _ _ _ 8 (ways.receives_good _ _ _ _ c.args.left _ c.if-left-eq0.false e w n) c.fetch.ensures.1.1))

@@ -1,7 +1,6 @@
 -- `idling::idle`: budget short, or the acknowledge of `idle_talk`. Assumes nothing.
 use Rattle.std.specs.Prelude.{Ok, Err}
 use mathlib.Core.Path.{◌≡◌, refl}
-use mathlib.Core.Bool.{false}
 use mathlib.Core.List.{[], ◌∷◌}
 use Prim.Native.Nat.{ℕ, zero, suc, ◌-◌}
 use native.Mathlib.Omega.{arith}
@@ -19,12 +18,12 @@ use Rattle.driver_rules.proofs.ItemWays.{answered, stops}
 use Rattle.driver_rules.proofs.Unmoved as unmoved
 use Rattle.items.proofs.idling.idle.Goals as goal
 
-none : (left : ℕ) (d : Driver) (c : Card) (s : Adapter) → left ≡ 0 → Tells left (run (idle_talk left d) s) (answered d c (Err BudgetShort) left false) s
+none : (left : ℕ) (d : Driver) (c : Card) (s : Adapter) → left ≡ 0 → Tells left (run (idle_talk left d) s) (answered d c (Err BudgetShort) left) s
 unfolding run idle_talk
 none left d c s e = stops left _ (Err BudgetShort) d [] s c left (rw e) (omega arith)
 
 done : (left : ℕ) (d : Driver) (c : Card) (s s₁ : Adapter) (v : ℕ) → (left ≡ 0 → ⊥) → access (WriteWord 14 26729) s ≡ step v s₁
-    → Tells left (run (idle_talk left d) s) (answered d c (Ok Idle) (left - 1) false) s₁
+    → Tells left (run (idle_talk left d) s) (answered d c (Ok Idle) (left - 1)) s₁
 unfolding run idle_talk
 done zero d c s s₁ v h e = absurd (h refl)
 done (suc k) d c s s₁ v h e = stops (suc k) _ (Ok Idle) d (WriteWord 14 26729 ∷ []) s₁ c (suc k - 1) (rw e) (omega arith)

@@ -6,8 +6,8 @@ use Rattle.driver_rules.proofs.Going as ways
 use Rattle.driver_rules.proofs.ServingUnmoved.{First}
 use Rattle.service.proofs.serving.serve.Given as goal
 
-abbrev pub invariant-loop-next : goal.invariant-loop-next
-invariant-loop-next l = Sound l.at l.ram l.dir × (First (run (look_talk l.budget l.initial.driver) (view l.initial.at l.initial.ram l.initial.dir)) (run (look_talk l.left l.driver) (view l.at l.ram l.dir)) l.initial.at l.at l.initial.ram l.initial.dir l.ram l.dir × ways.Going l.budget (run (look_talk l.budget l.initial.driver) (view l.initial.at l.initial.ram l.initial.dir)) l.left l.driver (view l.at l.ram l.dir) l.initial.ahead l.initial.frame l.ahead l.frame)
+abbrev pub invariant-loop-answer : goal.invariant-loop-answer
+invariant-loop-answer l = Sound l.at l.ram l.dir × (First (run (look_talk l.budget l.initial.driver) (view l.initial.at l.initial.ram l.initial.dir)) (run (look_talk l.left l.driver) (view l.at l.ram l.dir)) l.initial.at l.at l.initial.ram l.initial.dir l.ram l.dir × ways.Going l.budget (run (look_talk l.budget l.initial.driver) (view l.initial.at l.initial.ram l.initial.dir)) l.left l.driver (view l.at l.ram l.dir) l.initial.ahead l.initial.frame l.ahead l.frame)
 
-abbrev pub decreases-loop-next : goal.decreases-loop-next
-decreases-loop-next l = l.left
+abbrev pub decreases-loop-answer : goal.decreases-loop-answer
+decreases-loop-answer l = l.left

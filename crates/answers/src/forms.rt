@@ -101,10 +101,7 @@ pub fn report(text: &mut [u8], ticket: u16, s: u16, used: usize) -> usize
 pub fn part(bytes: &[u8]) -> &[u8]
     ensures { (result.now ≡ shortened bytes.now) × (length result.now ≤ 1792) }
 {
-    if bytes.len() > 1792 {
-        return &bytes[..1792];
-    }
-    bytes
+    &bytes[..bytes.len().min(1792)]
 }
 
 // What the wire is told.
@@ -144,22 +141,10 @@ fn addresses(text: &mut [u8], at: usize, m: usize, found: [u64; 7]) -> usize
     ensures { Puts (addresses_text (take m found)) at text.old text.new result × (result ≡ at + 13 * m) }
 {
     let mut place = at;
-    let mut i: usize = 0;
-    while i < m {
-        let a = found[i];
-        place = address(text, place, a);
-        i += 1;
+    for i in 0..m {
+        place = address(text, place, found[i]);
     }
     place
-}
-
-fn least_seven(m: usize) -> usize
-    ensures { (result ≡ seven_at_most m) × (result ≤ 7) }
-{
-    if m > 7 {
-        return 7;
-    }
-    m
 }
 
 // How many cards were found, the accesses used, and the addresses.
@@ -167,7 +152,7 @@ pub fn found(text: &mut [u8], m: usize, used: usize, found: [u64; 7]) -> usize
     requires { length text.old ≡ 4096 }
     ensures { Puts (found_line (seven_at_most m) used found) 0 text.old text.new result }
 {
-    let n = least_seven(m);
+    let n = m.min(7);
     let a = hex_text::put(text, 0, b"found ");
     let b = hex_text::put_decimal(text, a, n as u32);
     let c = hex_text::put(text, b, b" accesses ");

@@ -6,17 +6,17 @@ use mathlib.Core.Bool.{Bool, true, false, cond}
 use mathlib.Core.List.{List, [], ◌∷◌}
 use native.Mathlib.Omega.{arith}
 use lib.ListN.{length, take, drop}
+use Rattle.std.specs.Prelude.{Some, None}
 use Rattle.catalogue_rules.specs.Field.{Field, field, fields_of}
 use Rattle.catalogue_rules.proofs.At.{Stands, either_way}
 use Rattle.catalogue_rules.specs.Edit.{is_card}
-use Rattle.catalogue_rules.specs.declared.Seek.TheVariants.{Behind, Missing}
 use Rattle.catalogue_put.specs.Places.{card_place, seek_if}
 
-pub missing_if : (b : Bool) (place : ℕ) → Missing ≡ seek_if b place → b ≡ false
+pub missing_if : (b : Bool) (place : ℕ) → None ≡ seek_if b place → b ≡ false
 missing_if true place e = let z : ◌≡◌ {A = ℕ} 0 1 = cc in absurd (omega arith)
 missing_if false place e = refl
 
-pub behind-if : (b : Bool) (place at : ℕ) → Behind at ≡ seek_if b place → (b ≡ true) × (at ≡ place)
+pub behind-if : (b : Bool) (place at : ℕ) → Some at ≡ seek_if b place → (b ≡ true) × (at ≡ place)
 behind-if true place at e = (refl, cc)
 behind-if false place at e = let z : ◌≡◌ {A = ℕ} 0 1 = cc in absurd (omega arith)
 

@@ -7,13 +7,12 @@ use mathlib.Core.List.{List, [], ◌∷◌}
 use native.Mathlib.Omega.{arith}
 use lib.ListN.{length, take, drop}
 use lib.Dec.{eqb}
+use Rattle.std.specs.Prelude.{Option, Some, None}
 use Rattle.catalogue_rules.specs.Field.{Field, size_of, field, fields_of}
 use Rattle.catalogue_rules.proofs.At.{Stands}
 use Rattle.catalogue_rules.specs.Turns.{address_of}
 use Rattle.catalogue_rules.specs.Reading.{addresses_of, is_among}
 use Rattle.catalogue_rules.proofs.Seen.{among_hit, among_on, among_none}
-use Rattle.catalogue_rules.specs.declared.Seek.{Seek}
-use Rattle.catalogue_rules.specs.declared.Seek.TheVariants.{Behind, Missing}
 use Rattle.catalogue_put.specs.Places.{card_place, card_end, field_place, seek_if}
 
 -- ---- a place: the sizes of the fields up to one that stops
@@ -65,12 +64,12 @@ tagged-next t f fs = refl
 
 -- ---- the card
 
-pub card_nowhere : (a at : ℕ) (here : List ℕ) (whole : Seek) → fields_of here ≡ []
-    → seek_if (is_among a (addresses_of (fields_of here))) (at + card_place a (fields_of here)) ≡ whole → Missing ≡ whole
+pub card_nowhere : (a at : ℕ) (here : List ℕ) (whole : Option ℕ) → fields_of here ≡ []
+    → seek_if (is_among a (addresses_of (fields_of here))) (at + card_place a (fields_of here)) ≡ whole → None ≡ whole
 card_nowhere a at here whole none inv =
     ap (λ (b : Bool). seek_if b (at + card_place a (fields_of here))) (among_none here a none refl) ∙ inv
 
-module _ (a : ℕ) (file : List ℕ) (at : ℕ) (whole : Seek) (inv : seek_if (is_among a (addresses_of (fields_of (drop at file)))) (at + card_place a (fields_of (drop at file))) ≡ whole)
+module _ (a : ℕ) (file : List ℕ) (at : ℕ) (whole : Option ℕ) (inv : seek_if (is_among a (addresses_of (fields_of (drop at file)))) (at + card_place a (fields_of (drop at file))) ≡ whole)
     {tag start len : ℕ} (st : Stands file at tag start len) {t : Bool} (hit : t ≡ (eqb tag 1 && eqb (address_of (take len (drop start file))) a)) where
   place_here : card_place a (fields_of (drop at file)) ≡ cond t (3 + length (take len (drop start file))) (3 + length (take len (drop start file)) + card_place a (fields_of (drop (start + len) file)))
   unfolding card_place
@@ -78,14 +77,14 @@ module _ (a : ℕ) (file : List ℕ) (at : ℕ) (whole : Seek) (inv : seek_if (i
       ap (card_place a) st.is_first
       ∙ ap (λ (b : Bool). cond b (3 + length (take len (drop start file))) (3 + length (take len (drop start file)) + card_place a (fields_of (drop (start + len) file)))) (sym hit)
 
-  pub card-here : t ≡ true → Behind (start + len) ≡ whole
+  pub card-here : t ≡ true → Some (start + len) ≡ whole
   card-here e =
       let b : start ≡ at + 3 = st.behind_head in
       let s : length (take len (drop start file)) ≡ len = st.size in
       let p : card_place a (fields_of (drop at file)) ≡ 3 + length (take len (drop start file)) =
       place_here ∙ ap (λ (b : Bool). cond b (3 + length (take len (drop start file))) (3 + length (take len (drop start file)) + card_place a (fields_of (drop (start + len) file)))) e in
       let n : start + len ≡ at + card_place a (fields_of (drop at file)) = omega arith in
-      ap Behind n
+      ap Some n
       ∙ ap (λ (b : Bool). seek_if b (at + card_place a (fields_of (drop at file)))) (among_hit (drop at file) tag (take len (drop start file)) (drop (start + len) file) st.is_first a hit refl e)
       ∙ inv
 

@@ -1,9 +1,7 @@
 -- Places in a catalogue's file, as the lengths of the fields before them.
 -- Assumes nothing.
-use Rattle.std.specs.Prelude.{ℕ, ◌+◌, Bool, true, false, cond, ◌||◌, List, [], ◌∷◌, eqb}
+use Rattle.std.specs.Prelude.{ℕ, ◌+◌, Bool, true, false, cond, ◌||◌, List, [], ◌∷◌, eqb, Option, Some, None}
 use Rattle.catalogue_rules.specs.Field.{Field, size_of}
-use Rattle.catalogue_rules.specs.declared.Seek.{Seek}
-use Rattle.catalogue_rules.specs.declared.Seek.TheVariants.{Behind, Missing}
 use Rattle.catalogue_rules.specs.Edit.{is_card}
 
 -- Up to behind the address of a card.
@@ -22,6 +20,6 @@ field_place t [] = 0
 field_place t (f ∷ fs) = cond (eqb f.tag t) 0 (size_of f + field_place t fs)
 
 -- Where a card's fields begin, if it is there.
-abbrev pub seek_if : Bool → ℕ → Seek
-seek_if true place = Behind place
-seek_if false place = Missing
+abbrev pub seek_if : Bool → ℕ → Option ℕ
+seek_if true place = Some place
+seek_if false place = None

@@ -18,12 +18,9 @@ pub fn bytes(out: &mut [u8], at: usize, src: &[u8]) -> usize
     requires { at + length src.now ≤ length out.old }
     ensures { (result ≡ at + length src.now) × (out.new ≡ put_at out.old at src.now) }
 {
-    let mut i = 0;
-    while i < src.len() {
-        out[at + i] = src[i];
-        i = i + 1;
-    }
-    at + src.len()
+    let behind = at + src.len();
+    out[at..behind].copy_from_slice(src);
+    behind
 }
 
 // The two fields of a version.
@@ -31,8 +28,7 @@ pub fn version(out: &mut [u8], at: usize, number: u16, image: &[u8]) -> usize
     requires { (length image.now ≡ 128) × (at + 136 ≤ length out.old) }
     ensures { (result ≡ at + 136) × (out.new ≡ put_at out.old at (bytes_of (version_fields number image.now))) }
 {
-    let low = (number % 256) as u8;
-    let high = (number / 256) as u8;
+    let [low, high] = number.to_le_bytes();
     let head = [2, 2, 0, low, high, 3, 128, 0];
     let behind = bytes(out, at, &head);
     bytes(out, behind, image)
@@ -51,6 +47,7 @@ pub fn card(out: &mut [u8], at: usize, image: &[u8]) -> usize
 }
 
 // The count of fields.
+#[tactic(auto, unfolding(catalogue_rules::specs::Field::bytes_of))]
 pub fn count(out: &mut [u8], at: usize, n: usize) -> usize
     requires { (n < 65536) × (at + 5 ≤ length out.old) }
     ensures { (result ≡ at + 5) × (out.new ≡ put_at out.old at (bytes_of (count_field n ∷ []))) }

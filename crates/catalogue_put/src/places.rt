@@ -1,33 +1,26 @@
 // Where the fields of a card stand in a catalogue's file, and how many versions it has.
-ghost use Rattle.std.specs.Prelude.{◌≡◌, cond, ◌+◌, length, drop};
+ghost use Rattle.std.specs.Prelude.{◌≡◌, ◌+◌, length, drop};
 ghost use Rattle.catalogue_rules.specs.Field.{fields_of};
 ghost use Rattle.catalogue_rules.specs.Reading.{addresses_of, is_among};
-ghost use Rattle.catalogue_rules.specs.FileWalk.{one_if};
 ghost use Rattle.catalogue_rules.specs.Cards.{versions_from};
 ghost use Rattle.catalogue_rules.specs.Edit.{latest_number};
 ghost use Rattle.catalogue_put.specs.Places.{card_place, card_end, field_place, seek_if};
 
-use catalogue_rules::{Found, Seek};
+use catalogue_read::{field_at, is_address, value_number};
+use catalogue_rules::{ADDRESS, COUNT, IMAGE, NUMBER};
 
 // Behind the address of a card.
-pub fn card_place(file: &[u8], address: u64) -> Seek
+pub fn card_place(file: &[u8], address: u64) -> Option<usize>
     ensures { result ≡ seek_if (is_among address (addresses_of (fields_of file.now))) (card_place address (fields_of file.now)) }
 {
     let mut at = 0;
-    loop {
-        match catalogue_read::field_at(file, at) {
-            Found::Cut => {
-                return Seek::Missing;
-            }
-            Found::Whole { tag, start, len } => {
-                let next = start + len;
-                if catalogue_read::is_address(file, tag, start, len, address) {
-                    return Seek::Behind(next);
-                }
-                at = next;
-            }
+    while let Some(f) = field_at(file, at) {
+        at = f.start + f.len;
+        if is_address(file, f, address) {
+            return Some(at);
         }
     }
+    None
 }
 
 // The end of a card's fields: the next card, or the count.
@@ -35,19 +28,13 @@ pub fn card_end(file: &[u8], from: usize) -> usize
     ensures { result ≡ from + card_end (fields_of (drop from file.now)) }
 {
     let mut at = from;
-    loop {
-        match catalogue_read::field_at(file, at) {
-            Found::Cut => {
-                return at;
-            }
-            Found::Whole { tag, start, len } => {
-                if (tag == 1) | (tag == 4) {
-                    return at;
-                }
-                at = start + len;
-            }
+    while let Some(f) = field_at(file, at) {
+        if f.tag == ADDRESS || f.tag == COUNT {
+            break;
         }
+        at = f.start + f.len;
     }
+    at
 }
 
 // The first field with a tag, from a place on.
@@ -55,28 +42,13 @@ pub fn field_place(file: &[u8], from: usize, wanted: u8) -> usize
     ensures { result ≡ from + field_place wanted (fields_of (drop from file.now)) }
 {
     let mut at = from;
-    loop {
-        match catalogue_read::field_at(file, at) {
-            Found::Cut => {
-                return at;
-            }
-            Found::Whole { tag, start, len } => {
-                if tag == wanted {
-                    return at;
-                }
-                at = start + len;
-            }
+    while let Some(f) = field_at(file, at) {
+        if f.tag == wanted {
+            break;
         }
+        at = f.start + f.len;
     }
-}
-
-fn one_if(image: bool) -> usize
-    ensures { result ≡ one_if image }
-{
-    if image {
-        return 1;
-    }
-    0
+    at
 }
 
 // How many versions stand between a place and the next card.
@@ -85,29 +57,14 @@ pub fn versions(file: &[u8], from: usize) -> usize
 {
     let mut at = from;
     let mut n: usize = 0;
-    loop {
-        match catalogue_read::field_at(file, at) {
-            Found::Cut => {
-                return n;
-            }
-            Found::Whole { tag, start, len } => {
-                if tag == 1 {
-                    return n;
-                }
-                n = n + one_if(tag == 3);
-                at = start + len;
-            }
+    while let Some(f) = field_at(file, at) {
+        if f.tag == ADDRESS {
+            break;
         }
+        n += usize::from(f.tag == IMAGE);
+        at = f.start + f.len;
     }
-}
-
-fn either(first: bool, one: u16, other: u16) -> u16
-    ensures { result ≡ cond first one other }
-{
-    if first {
-        return one;
-    }
-    other
+    n
 }
 
 // The number of the latest of them; 0 where there is none.
@@ -117,23 +74,14 @@ pub fn last_number(file: &[u8], from: usize) -> u16
     let mut at = from;
     let mut told: u16 = 0;
     let mut last: u16 = 0;
-    loop {
-        match catalogue_read::field_at(file, at) {
-            Found::Cut => {
-                return last;
-            }
-            Found::Whole { tag, start, len } => {
-                if tag == 1 {
-                    return last;
-                }
-                last = either(tag == 3, told, last);
-                told = either(
-                    tag == 2,
-                    catalogue_read::value_number(file, start, len),
-                    told,
-                );
-                at = start + len;
-            }
+    while let Some(f) = field_at(file, at) {
+        match f.tag {
+            ADDRESS => break,
+            NUMBER => told = value_number(file, f.start, f.len),
+            IMAGE => last = told,
+            _ => {}
         }
+        at = f.start + f.len;
     }
+    last
 }

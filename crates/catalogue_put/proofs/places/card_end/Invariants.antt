@@ -8,8 +8,8 @@ use Rattle.catalogue_rules.specs.Field.{fields_of}
 use Rattle.catalogue_put.specs.Places.{card_end}
 use Rattle.catalogue_put.proofs.places.card_end.Given as goal
 
-abbrev pub invariant-loop-tag : goal.invariant-loop-tag
-invariant-loop-tag l = l.at + card_end (fields_of (drop l.at l.file)) ≡ l.from + card_end (fields_of (drop l.from l.file))
+abbrev pub invariant-loop-f : goal.invariant-loop-f
+invariant-loop-f l = l.at + card_end (fields_of (drop l.at l.file)) ≡ l.from + card_end (fields_of (drop l.from l.file))
 
-abbrev pub decreases-loop-tag : goal.decreases-loop-tag
-decreases-loop-tag l = length l.file - l.at
+abbrev pub decreases-loop-f : goal.decreases-loop-f
+decreases-loop-f l = length l.file - l.at

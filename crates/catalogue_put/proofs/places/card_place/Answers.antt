@@ -11,25 +11,21 @@ use Rattle.catalogue_put.specs.Places.{seek_if}
 use Rattle.catalogue_put.proofs.Passed.{from_zero, card_nowhere, card-here, card-later}
 use Rattle.catalogue_put.proofs.places.card_place.Goals as goal
 
-pub loop-tag-init : goal.loop-tag-init
-loop-tag-init c = ap (seek_if (is_among c.args.address (addresses_of (fields_of c.args.file.now)))) (from_zero _)
+pub loop-f-init : goal.loop-f-init
+loop-f-init c = ap (seek_if (is_among c.args.address (addresses_of (fields_of c.args.file.now)))) (from_zero _)
 
-pub returns-in-Cut : goal.returns-in-Cut
-returns-in-Cut c =
-    card_nowhere c.args.address c.loop-tag.at (drop c.loop-tag.at c.args.file.now) _ (stops {file = c.args.file.now} {at = c.loop-tag.at} (sym c.in-Cut.is ∙ c.field_at.ensures)).none c.loop-tag.invariant
-
-pub overflow_add-next : goal.overflow_add-next
-overflow_add-next c =
-    omega (arith, (stands {file = c.args.file.now} {at = c.loop-tag.at} (sym c.in-Whole.is ∙ c.field_at.ensures)).fits)
+pub returns : goal.returns
+returns c =
+    card_nowhere c.args.address c.loop-f.at (drop c.loop-f.at c.args.file.now) _ (stops {file = c.args.file.now} {at = c.loop-f.at} (sym c.in_default.is ∙ c.field_at.ensures)).none c.loop-f.invariant
 
 pub returns-then-is_address : goal.returns-then-is_address
 returns-then-is_address c =
-    card-here c.args.address c.args.file.now c.loop-tag.at _ c.loop-tag.invariant (stands {file = c.args.file.now} {at = c.loop-tag.at} (sym c.in-Whole.is ∙ c.field_at.ensures)) c.is_address.ensures c.if-is_address.true
+    card-here c.args.address c.args.file.now c.loop-f.at _ c.loop-f.invariant (stands {file = c.args.file.now} {at = c.loop-f.at} (sym c.in-Some.is ∙ c.field_at.ensures)) c.is_address.ensures c.if-is_address.true
 
-pub loop-tag-smaller : goal.loop-tag-smaller
-loop-tag-smaller c =
-    omega (arith, (stands {file = c.args.file.now} {at = c.loop-tag.at} (sym c.in-Whole.is ∙ c.field_at.ensures)).fits, (stands {file = c.args.file.now} {at = c.loop-tag.at} (sym c.in-Whole.is ∙ c.field_at.ensures)).behind_head)
+pub loop-f-smaller : goal.loop-f-smaller
+loop-f-smaller c =
+    omega (arith, (stands {file = c.args.file.now} {at = c.loop-f.at} (sym c.in-Some.is ∙ c.field_at.ensures)).fits, (stands {file = c.args.file.now} {at = c.loop-f.at} (sym c.in-Some.is ∙ c.field_at.ensures)).behind_head)
 
-pub loop-tag-preserved : goal.loop-tag-preserved
-loop-tag-preserved c =
-    card-later c.args.address c.args.file.now c.loop-tag.at _ c.loop-tag.invariant (stands {file = c.args.file.now} {at = c.loop-tag.at} (sym c.in-Whole.is ∙ c.field_at.ensures)) c.is_address.ensures c.if-is_address.false
+pub loop-f-preserved : goal.loop-f-preserved
+loop-f-preserved c =
+    card-later c.args.address c.args.file.now c.loop-f.at _ c.loop-f.invariant (stands {file = c.args.file.now} {at = c.loop-f.at} (sym c.in-Some.is ∙ c.field_at.ensures)) c.is_address.ensures c.if-is_address.false

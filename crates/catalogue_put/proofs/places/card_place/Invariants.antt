@@ -9,9 +9,9 @@ use Rattle.catalogue_rules.specs.Reading.{addresses_of, is_among}
 use Rattle.catalogue_put.specs.Places.{card_place, seek_if}
 use Rattle.catalogue_put.proofs.places.card_place.Given as goal
 
-abbrev pub invariant-loop-tag : goal.invariant-loop-tag
-invariant-loop-tag l = seek_if (is_among l.address (addresses_of (fields_of (drop l.at l.file)))) (l.at + card_place l.address (fields_of (drop l.at l.file)))
+abbrev pub invariant-loop-f : goal.invariant-loop-f
+invariant-loop-f l = seek_if (is_among l.address (addresses_of (fields_of (drop l.at l.file)))) (l.at + card_place l.address (fields_of (drop l.at l.file)))
     ≡ seek_if (is_among l.address (addresses_of (fields_of l.file))) (card_place l.address (fields_of l.file))
 
-abbrev pub decreases-loop-tag : goal.decreases-loop-tag
-decreases-loop-tag l = length l.file - l.at
+abbrev pub decreases-loop-f : goal.decreases-loop-f
+decreases-loop-f l = length l.file - l.at

@@ -9,25 +9,21 @@ use Rattle.catalogue_put.proofs.Passed.{is_tagged, tagged-empty, tagged-next, pl
 use borrow.Author.Tests.{eq-eqb, ne_eqb}
 use Rattle.catalogue_put.proofs.places.field_place.Goals as goal
 
-pub loop-tag-init : goal.loop-tag-init
-loop-tag-init c = refl
+pub loop-f-init : goal.loop-f-init
+loop-f-init c = refl
 
-pub returns-in-Cut : goal.returns-in-Cut
-returns-in-Cut c =
-    place_none (field_place c.args.wanted) (is_tagged c.args.wanted) (tagged-empty c.args.wanted) (tagged-next c.args.wanted) c.args.file.now c.loop-tag.at _ c.loop-tag.invariant (stops {file = c.args.file.now} {at = c.loop-tag.at} (sym c.in-Cut.is ∙ c.field_at.ensures)).none
+pub returns-in_default : goal.returns-in_default
+returns-in_default c =
+    place_none (field_place c.args.wanted) (is_tagged c.args.wanted) (tagged-empty c.args.wanted) (tagged-next c.args.wanted) c.args.file.now c.loop-f.at _ c.loop-f.invariant (stops {file = c.args.file.now} {at = c.loop-f.at} (sym c.in_default.is ∙ c.field_at.ensures)).none
 
-pub returns-then-tag-wanted : goal.returns-then-tag-wanted
-returns-then-tag-wanted c =
-    place_stop (field_place c.args.wanted) (is_tagged c.args.wanted) (tagged-empty c.args.wanted) (tagged-next c.args.wanted) c.args.file.now c.loop-tag.at _ c.loop-tag.invariant (stands {file = c.args.file.now} {at = c.loop-tag.at} (sym c.in-Whole.is ∙ c.field_at.ensures)) (eq-eqb _ _ c.if-tag-wanted.true)
+pub returns-then-f-wanted : goal.returns-then-f-wanted
+returns-then-f-wanted c =
+    place_stop (field_place c.args.wanted) (is_tagged c.args.wanted) (tagged-empty c.args.wanted) (tagged-next c.args.wanted) c.args.file.now c.loop-f.at _ c.loop-f.invariant (stands {file = c.args.file.now} {at = c.loop-f.at} (sym c.in-Some.is ∙ c.field_at.ensures)) (eq-eqb _ _ c.if-f-wanted.true)
 
-pub overflow_add-at : goal.overflow_add-at
-overflow_add-at c =
-    omega (arith, (stands {file = c.args.file.now} {at = c.loop-tag.at} (sym c.in-Whole.is ∙ c.field_at.ensures)).fits)
+pub loop-f-smaller : goal.loop-f-smaller
+loop-f-smaller c =
+    omega (arith, (stands {file = c.args.file.now} {at = c.loop-f.at} (sym c.in-Some.is ∙ c.field_at.ensures)).fits, (stands {file = c.args.file.now} {at = c.loop-f.at} (sym c.in-Some.is ∙ c.field_at.ensures)).behind_head)
 
-pub loop-tag-smaller : goal.loop-tag-smaller
-loop-tag-smaller c =
-    omega (arith, (stands {file = c.args.file.now} {at = c.loop-tag.at} (sym c.in-Whole.is ∙ c.field_at.ensures)).fits, (stands {file = c.args.file.now} {at = c.loop-tag.at} (sym c.in-Whole.is ∙ c.field_at.ensures)).behind_head)
-
-pub loop-tag-preserved : goal.loop-tag-preserved
-loop-tag-preserved c =
-    place-on (field_place c.args.wanted) (is_tagged c.args.wanted) (tagged-empty c.args.wanted) (tagged-next c.args.wanted) c.args.file.now c.loop-tag.at _ c.loop-tag.invariant (stands {file = c.args.file.now} {at = c.loop-tag.at} (sym c.in-Whole.is ∙ c.field_at.ensures)) (ne_eqb _ _ c.if-tag-wanted.false)
+pub loop-f-preserved : goal.loop-f-preserved
+loop-f-preserved c =
+    place-on (field_place c.args.wanted) (is_tagged c.args.wanted) (tagged-empty c.args.wanted) (tagged-next c.args.wanted) c.args.file.now c.loop-f.at _ c.loop-f.invariant (stands {file = c.args.file.now} {at = c.loop-f.at} (sym c.in-Some.is ∙ c.field_at.ensures)) (ne_eqb _ _ c.if-f-wanted.false)

@@ -2,32 +2,39 @@
 -- The measure is what is left of the file.
 -- Assumes nothing.
 use native.Mathlib.Omega.{arith}
-use mathlib.Core.Path.{sym, ◌∙◌}
+use mathlib.Core.Path.{refl, sym, ◌∙◌}
 use lib.ListN.{drop}
+use borrow.Author.Tests.{ne_eqb}
 use Rattle.catalogue_rules.proofs.At.{stands, stops}
 use Rattle.catalogue_rules.proofs.Versions.{latest-any}
 use Rattle.catalogue_put.proofs.Counted.{last_none, last_end, last_on}
 use Rattle.catalogue_put.proofs.places.last_number.Goals as goal
+use Rattle.catalogue_put.proofs.places.last_number.Goals.{in-2, in-3, in_default-tag}
 
-pub loop-tag-init : goal.loop-tag-init
-loop-tag-init c = sym (latest-any _)
+pub loop-f-init : goal.loop-f-init
+loop-f-init c = sym (latest-any _)
 
-pub returns-in-Cut : goal.returns-in-Cut
-returns-in-Cut c =
-    last_none (drop c.loop-tag.at c.args.file.now) c.loop-tag.told c.loop-tag.last _ (stops {file = c.args.file.now} {at = c.loop-tag.at} (sym c.in-Cut.is ∙ c.field_at.ensures)).none c.loop-tag.invariant
+pub returns-in_default : goal.returns-in_default
+returns-in_default c =
+    last_none (drop c.loop-f.at c.args.file.now) c.loop-f.told c.loop-f.last _ (stops {file = c.args.file.now} {at = c.loop-f.at} (sym c.in_default.is ∙ c.field_at.ensures)).none c.loop-f.invariant
 
-pub returns-then-tag-eq1 : goal.returns-then-tag-eq1
-returns-then-tag-eq1 c =
-    last_end c.args.file.now c.loop-tag.at (stands {file = c.args.file.now} {at = c.loop-tag.at} (sym c.in-Whole.is ∙ c.field_at.ensures)) c.loop-tag.told c.loop-tag.last _ c.loop-tag.invariant c.if-tag-eq1.true
+pub returns-in-1 : goal.returns-in-1
+returns-in-1 c =
+    last_end c.args.file.now c.loop-f.at (stands {file = c.args.file.now} {at = c.loop-f.at} (sym c.in-Some.is ∙ c.field_at.ensures)) c.loop-f.told c.loop-f.last _ c.loop-f.invariant c.in-1.is
 
-pub overflow_add-at : goal.overflow_add-at
-overflow_add-at c =
-    omega (arith, (stands {file = c.args.file.now} {at = c.loop-tag.at} (sym c.in-Whole.is ∙ c.field_at.ensures)).fits)
+pub loop-f-smaller : goal.loop-f-smaller
+loop-f-smaller c =
+    omega (arith, (stands {file = c.args.file.now} {at = c.loop-f.at} (sym c.in-Some.is ∙ c.field_at.ensures)).fits, (stands {file = c.args.file.now} {at = c.loop-f.at} (sym c.in-Some.is ∙ c.field_at.ensures)).behind_head)
 
-pub loop-tag-smaller : goal.loop-tag-smaller
-loop-tag-smaller c =
-    omega (arith, (stands {file = c.args.file.now} {at = c.loop-tag.at} (sym c.in-Whole.is ∙ c.field_at.ensures)).fits, (stands {file = c.args.file.now} {at = c.loop-tag.at} (sym c.in-Whole.is ∙ c.field_at.ensures)).behind_head)
-
-pub loop-tag-preserved : goal.loop-tag-preserved
-loop-tag-preserved c =
-    last_on c.args.file.now c.loop-tag.at (stands {file = c.args.file.now} {at = c.loop-tag.at} (sym c.in-Whole.is ∙ c.field_at.ensures)) c.loop-tag.told c.loop-tag.last _ c.loop-tag.invariant c.if-tag-eq1.false c.either-last.ensures c.value_number.ensures c.either-told.ensures
+-- A number is told, an image takes the number told, and any other field leaves both.
+pub loop-f-preserved : goal.loop-f-preserved
+loop-f-preserved c =
+    let st = stands {file = c.args.file.now} {at = c.loop-f.at} (sym c.in-Some.is ∙ c.field_at.ensures) in
+    elim c.match-f.branch [
+      | in-2 w ↦
+          last_on c.args.file.now c.loop-f.at st c.loop-f.told c.loop-f.last _ c.loop-f.invariant (λ e. omega (arith, w.in-2.is)) (rw w.in-2.is w.last-is) w.value_number-told.ensures (rw w.in-2.is w.told-is)
+      | in-3 w ↦
+          last_on c.args.file.now c.loop-f.at st c.loop-f.told c.loop-f.last _ c.loop-f.invariant (λ e. omega (arith, w.in-3.is)) (rw w.in-3.is w.last-is) refl (rw w.in-3.is w.told-is)
+      | in_default-tag w ↦
+          last_on c.args.file.now c.loop-f.at st c.loop-f.told c.loop-f.last _ c.loop-f.invariant (λ e. omega arith) (rw (ne_eqb c.in-Some.f.tag 3 (λ e. omega arith)) w.last-is) refl (rw (ne_eqb c.in-Some.f.tag 2 (λ e. omega arith)) w.told-is)
+    ]

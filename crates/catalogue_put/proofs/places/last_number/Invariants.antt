@@ -10,8 +10,8 @@ use Rattle.catalogue_rules.specs.Edit.{latest_number}
 use Rattle.catalogue_rules.proofs.Versions.{latest_from}
 use Rattle.catalogue_put.proofs.places.last_number.Given as goal
 
-abbrev pub invariant-loop-tag : goal.invariant-loop-tag
-invariant-loop-tag l = latest_from l.last (versions_from l.told (fields_of (drop l.at l.file))) ≡ latest_number (versions_from 0 (fields_of (drop l.from l.file)))
+abbrev pub invariant-loop-f : goal.invariant-loop-f
+invariant-loop-f l = latest_from l.last (versions_from l.told (fields_of (drop l.at l.file))) ≡ latest_number (versions_from 0 (fields_of (drop l.from l.file)))
 
-abbrev pub decreases-loop-tag : goal.decreases-loop-tag
-decreases-loop-tag l = length l.file - l.at
+abbrev pub decreases-loop-f : goal.decreases-loop-f
+decreases-loop-f l = length l.file - l.at

@@ -17,6 +17,9 @@ use receive_rules::{Receive, Receiver};
 use transmit::outcomes;
 use transmit_rules::{Fifo, Transmit};
 
+// The bytes of the RAM.
+const RAM: usize = 8192;
+
 // The weight of the window in Status: it stands in bits 15 to 13.
 const WINDOW: u16 = 8192;
 
@@ -30,28 +33,18 @@ const HIGHEST: u16 = 1792;
 pub fn tx_size(second: u16) -> usize
     ensures { (result ≡ tx_size (second % 4)) × (result ≤ 4096) }
 {
-    let split = second % 4;
-    if split == 1 {
-        return 2048;
+    match second % 4 {
+        1 => 2048,
+        2 => 4096,
+        _ => 3072,
     }
-    if split == 2 {
-        return 4096;
-    }
-    3072
 }
 
-// The receiver's part.
+// The receiver's part: the rest.
 pub fn rx_size(second: u16) -> usize
     ensures { (result ≡ rx_size (second % 4)) × (result ≤ 6144) }
 {
-    let split = second % 4;
-    if split == 1 {
-        return 6144;
-    }
-    if split == 2 {
-        return 4096;
-    }
-    5120
+    RAM - tx_size(second)
 }
 
 // The weight of a flag, unless a 0 in the Read Zero mask hides it.
@@ -67,15 +60,14 @@ pub fn status_of(s: Select, f: Flags) -> u16
     requires { select_sound s ≡ true }
     ensures { result ≡ status_of s f }
 {
-    let zero = s.zero;
     s.window * WINDOW
         + (bits::weight_if(1, f.latch)
-            + shown(zero, 2, f.failed)
-            + shown(zero, 4, f.completed)
-            + shown(zero, 8, f.available)
-            + shown(zero, 16, f.received)
-            + shown(zero, 32, f.early)
-            + shown(zero, 64, f.requested))
+            + shown(s.zero, 2, f.failed)
+            + shown(s.zero, 4, f.completed)
+            + shown(s.zero, 8, f.available)
+            + shown(s.zero, 16, f.received)
+            + shown(s.zero, 32, f.early)
+            + shown(s.zero, 64, f.requested))
 }
 
 // Whether a flag is in the interrupt mask and visible.
@@ -91,19 +83,18 @@ pub fn interrupts(s: Select, f: Flags) -> bool
     ensures { result ≡ interrupting s f }
 {
     rises(s, 2, f.failed)
-        | (rises(s, 4, f.completed)
-            | (rises(s, 8, f.available)
-                | (rises(s, 16, f.received) | (rises(s, 32, f.early) | rises(s, 64, f.requested)))))
+        | rises(s, 4, f.completed)
+        | rises(s, 8, f.available)
+        | rises(s, 16, f.received)
+        | rises(s, 32, f.early)
+        | rises(s, 64, f.requested)
 }
 
 // Whether the IRQ field names a line; any other value disables the drivers.
 fn is_line(irq: u16) -> bool
     ensures { result ≡ is_line irq }
 {
-    (irq == 3)
-        | ((irq == 5)
-            | ((irq == 7)
-                | ((irq == 9) | ((irq == 10) | ((irq == 11) | ((irq == 12) | (irq == 15)))))))
+    matches!(irq, 3 | 5 | 7 | 9 | 10 | 11 | 12 | 15)
 }
 
 // The interrupt line that the card drives, 0 for none: the latch alone raises no line.
@@ -111,7 +102,7 @@ pub fn interrupt_line(c: Card) -> u16
     ensures { (ram dir : List ℕ) → result ≡ interrupt_line (view c ram dir) }
 {
     let irq = c.config.resource / IRQ % 16;
-    let driving = c.config.enabled & (!(c.select.window == 0) & is_line(irq));
+    let driving = c.config.enabled & ((c.select.window != 0) & is_line(irq));
     if c.lines.latch & driving {
         return irq;
     }
@@ -123,9 +114,11 @@ fn select_sound(s: Select) -> bool
     ensures { result ≡ select_sound s }
 {
     (s.window <= 7)
-        & ((s.mask <= 254)
-            & (s.mask % 2 == 0)
-            & ((s.zero <= 254) & (s.zero % 2 == 0) & (s.filter <= 15)))
+        & (s.mask <= 254)
+        & (s.mask % 2 == 0)
+        & (s.zero <= 254)
+        & (s.zero % 2 == 0)
+        & (s.filter <= 15)
 }
 
 // The configuration registers at power-on: words 03h, 09h, 12h and 13h are loaded.
@@ -154,7 +147,7 @@ pub fn quiet(wire: u8) -> Receive
             told: false,
             threshold: receive::EARLY_DEFAULT,
             read: 0,
-            wire: wire,
+            wire,
         },
         frames: 0,
     }
@@ -164,12 +157,8 @@ pub fn quiet(wire: u8) -> Receive
 pub fn power_on(words: [u16; 64], wire: u8) -> Card
     ensures { Blank result (power_on words wire) }
 {
-    let id = idport::fresh(words);
-    let outcomes = outcomes::fresh();
-    let config = loaded(words);
-    let receive = quiet(wire);
     Card {
-        id: id,
+        id: idport::fresh(words),
         select: Select {
             window: 0,
             mask: 0,
@@ -181,19 +170,19 @@ pub fn power_on(words: [u16; 64], wire: u8) -> Card
             requested: false,
             low: 0,
         },
-        config: config,
+        config: loaded(words),
         prom: Prom {
             last: 0,
             writable: false,
         },
-        receive: receive,
+        receive: quiet(wire),
         transmit: Transmit {
             fifo: Fifo {
                 failed: false,
                 packets: 0,
                 words: 0,
             },
-            outcomes: outcomes,
+            outcomes: outcomes::fresh(),
         },
     }
 }
@@ -203,15 +192,12 @@ pub fn flags_of(ram: &[u8], dir: &[u16], c: Card) -> Flags
     requires { Held c ram.now dir.now × rx.Sound (rx_size_of c) c.receive ram.now dir.now }
     ensures { result ≡ flags_of (view c ram.now dir.now) }
 {
-    let size = rx_size(c.config.second);
-    let received = receive::rx_complete(ram, dir, size, c.receive);
-    let completed = transmit::has_status(c.transmit.outcomes);
     Flags {
         latch: c.lines.latch,
         failed: c.receive.receiver.failed | c.transmit.fifo.failed,
-        completed: completed,
+        completed: transmit::has_status(c.transmit.outcomes),
         available: c.transmit.outcomes.sender.available,
-        received: received,
+        received: receive::rx_complete(ram, dir, rx_size(c.config.second), c.receive),
         early: c.receive.receiver.early,
         requested: c.lines.requested,
     }
@@ -246,13 +232,11 @@ fn settle_sides(ram: &[u8], dir: &[u16], c: Card) -> Card
     requires { Held c ram.now dir.now × (kept (view c ram.now dir.now) ≡ true) }
     ensures { SettlesSides c result ram.now dir.now }
 {
-    let second = c.config.second;
-    let receive = receive::settle_early(ram, dir, rx_size(second), c.receive);
-    let transmit = transmit::settle(ram, dir, tx_size(second), c.transmit);
-    let mut next = c;
-    next.receive = receive;
-    next.transmit = transmit;
-    next
+    Card {
+        receive: receive::settle_early(ram, dir, rx_size(c.config.second), c.receive),
+        transmit: transmit::settle(ram, dir, tx_size(c.config.second), c.transmit),
+        ..c
+    }
 }
 
 // What every step ends with, in full.
@@ -260,11 +244,10 @@ fn settle_all(ram: &[u8], dir: &[u16], c: Card) -> Card
     requires { Held c ram.now dir.now × (kept (view c ram.now dir.now) ≡ true) }
     ensures { Stands result ram.now dir.now (settle_of (view c ram.now dir.now)) }
 {
-    let mut next = settle_sides(ram, dir, c);
-    let f = flags_of(ram, dir, next);
-    let latch = interrupts(next.select, f) | next.lines.latch;
-    next.lines.latch = latch;
-    next
+    let mut settled = settle_sides(ram, dir, c);
+    let rising = interrupts(settled.select, flags_of(ram, dir, settled));
+    settled.lines.latch = rising | settled.lines.latch;
+    settled
 }
 
 // Whether it is plain that nothing is due: RX Early is settled, TX Available is known without TX Free, and the latch stands or no interrupt is enabled.
@@ -295,28 +278,22 @@ pub fn is_sound(ram: &[u8], dir: &[u16], c: Card) -> bool
     requires { (length ram.now ≡ 8192) × (length dir.now ≡ 1110) }
     ensures { result ≡ sound_card c ram.now dir.now }
 {
-    let second = c.config.second;
-    if !receive::rx_sound(ram, dir, rx_size(second), c.receive) {
+    if !receive::rx_sound(ram, dir, rx_size(c.config.second), c.receive) {
         return false;
     }
-    if !transmit::tx_sound(ram, dir, tx_size(second), c.transmit) {
+    if !transmit::tx_sound(ram, dir, tx_size(c.config.second), c.transmit) {
         return false;
     }
-    let id = idport::id_sound(c.id);
-    let select = select_sound(c.select);
+    let registers = idport::id_sound(c.id) & (!c.id.due & select_sound(c.select));
     if c.lines.latch | (c.select.mask == 0) {
-        return id & (!c.id.due & select);
+        return registers;
     }
-    let f = flags_of(ram, dir, c);
-    let interrupting = interrupts(c.select, f);
-    (id & (!c.id.due & select)) & (c.lines.latch | !interrupting)
+    registers & (c.lines.latch | !interrupts(c.select, flags_of(ram, dir, c)))
 }
 
 // Global Reset.
 pub fn reset(c: Card) -> Card
     ensures { Does c result reset_of }
 {
-    let words = c.id.words;
-    let wire = receive::deafen(c.receive.receiver.wire);
-    power_on(words, wire)
+    power_on(c.id.words, receive::deafen(c.receive.receiver.wire))
 }

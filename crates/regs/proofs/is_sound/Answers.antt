@@ -12,13 +12,13 @@ returns-then-not-tx_sound c =
 pub returns-then-c : goal.returns-then-c
 returns-then-c c =
     short_test c.args.c _ _ _ _ (rx_yes c.args.c _ _ _ _ c.rx_size.ensures.0 c.rx_sound.ensures (c.if-not-rx_sound.false)) (tx_yes c.args.c _ _ _ _ c.tx_size.ensures.0 c.tx_sound.ensures (c.if-not-tx_sound.false))
-    c.id_sound-id.ensures c.select_sound-select.ensures c.if-c.true
+    c.id_sound.ensures c.select_sound.ensures c.if-c.true
 
-pub flags_of-f-requires : goal.flags_of-f-requires
-flags_of-f-requires c =
+pub flags_of-requires : goal.flags_of-requires
+flags_of-requires c =
     sides_held _ _ _ c.requires.0 c.requires.1 (rx_yes c.args.c _ _ _ _ c.rx_size.ensures.0 c.rx_sound.ensures (c.if-not-rx_sound.false)) (tx_yes c.args.c _ _ _ _ c.tx_size.ensures.0 c.tx_sound.ensures (c.if-not-tx_sound.false))
 
 pub returns : goal.returns
 returns c =
     last_test _ _ _ _ _ _ _ (rx_yes c.args.c _ _ _ _ c.rx_size.ensures.0 c.rx_sound.ensures (c.if-not-rx_sound.false)) (tx_yes c.args.c _ _ _ _ c.tx_size.ensures.0 c.tx_sound.ensures (c.if-not-tx_sound.false))
-    c.flags_of-f.ensures c.id_sound-id.ensures c.select_sound-select.ensures c.interrupts-interrupting.ensures
+    c.flags_of.ensures c.id_sound.ensures c.select_sound.ensures c.interrupts.ensures

@@ -7,5 +7,5 @@ pub returns : goal.returns
 unfolding power_on
 returns c =
     let s = c.args in
-    rw (c.quiet-receive.ensures, c.loaded-config.ensures)
-    (started-blank s.words s.wire c.fresh-id.result c.fresh-outcomes.result c.fresh-id.ensures c.fresh-outcomes.ensures)
+    rw (c.quiet.ensures, c.loaded.ensures)
+    (started-blank s.words s.wire c.fresh.result c.fresh-2.result c.fresh.ensures c.fresh-2.ensures)

@@ -3,4 +3,4 @@ use Rattle.card_rules.proofs.Blank.{reset-does}
 use Rattle.regs.proofs.reset.Goals as goal
 
 pub returns : goal.returns
-returns c = reset-does _ _ _ c.deafen-wire.ensures c.power_on.ensures
+returns c = reset-does _ _ _ c.deafen.ensures c.power_on.ensures

@@ -1,17 +1,17 @@
--- `regs::rx_size` meets its contract: the tests pick the split. Assumes nothing.
-use lib.Dec.{lit≤}
-use borrow.Author.Tests.{eq-eqb, ne_eqb}
-use Rattle.card_rules.specs.Room.{rx_size}
+-- `regs::rx_size` meets its contract: in each split the receiver has what the transmitter leaves. Assumes nothing.
+use mathlib.Core.Path.{◌≡◌, refl}
+use mathlib.Core.Bool.{Bool, true, false, cond}
+use Prim.Native.Nat.{◌-◌, ◌%◌, ◌≤◌}
+use native.Mathlib.Omega.{arith}
+use lib.Dec.{eqb}
+use Rattle.card_rules.specs.Room.{tx_size, rx_size}
 use Rattle.regs.proofs.rx_size.Goals as goal
 
-pub returns-then-split-eq1 : goal.returns-then-split-eq1
-unfolding rx_size
-returns-then-split-eq1 c = (rw (eq-eqb _ _ c.if-split-eq1.true), lit≤ tt)
-
-pub returns-then-split-eq2 : goal.returns-then-split-eq2
-unfolding rx_size
-returns-then-split-eq2 c = (rw (ne_eqb _ _ c.if-split-eq1.false, eq-eqb _ _ c.if-split-eq2.true), lit≤ tt)
+rest : (a b : Bool) → (8192 - cond a 2048 (cond b 4096 3072) ≡ cond a 6144 (cond b 4096 5120)) × (8192 - cond a 2048 (cond b 4096 3072) ≤ 6144)
+rest true b = (refl, omega arith)
+rest false true = (refl, omega arith)
+rest false false = (refl, omega arith)
 
 pub returns : goal.returns
-unfolding rx_size
-returns c = (rw (ne_eqb _ _ c.if-split-eq1.false, ne_eqb _ _ c.if-split-eq2.false), lit≤ tt)
+unfolding tx_size rx_size
+returns c = let s = c.args.second % 4 in rw c.tx_size.ensures.0 (rest (eqb s 1) (eqb s 2))

@@ -2,12 +2,12 @@
 use Rattle.card_rules.proofs.Ends.{settles}
 use Rattle.regs.proofs.settle_all.Goals as goal
 
-pub settle_sides-next-requires : goal.settle_sides-next-requires
-settle_sides-next-requires c = c.requires
+pub settle_sides-settled-requires : goal.settle_sides-settled-requires
+settle_sides-settled-requires c = c.requires
 
-pub flags_of-f-requires : goal.flags_of-f-requires
-flags_of-f-requires c = (c.settle_sides-next.ensures.held, c.settle_sides-next.ensures.rx_sound_is)
+pub flags_of-requires : goal.flags_of-requires
+flags_of-requires c = (c.settle_sides-settled.ensures.held, c.settle_sides-settled.ensures.rx_sound_is)
 
 pub returns : goal.returns
 returns c =
-    settles _ _ _ _ _ _ c.requires.1 c.settle_sides-next.ensures c.flags_of-f.ensures c.interrupts.ensures
+    settles _ _ _ _ _ _ c.requires.1 c.settle_sides-settled.ensures c.flags_of.ensures c.interrupts-rising.ensures

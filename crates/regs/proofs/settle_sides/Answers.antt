@@ -9,17 +9,17 @@ use Rattle.card_rules.proofs.Sides.{tx-kept}
 use Rattle.card_rules.proofs.Ends.{sides_settle}
 use Rattle.regs.proofs.settle_sides.Goals as goal
 
-pub settle_early-receive-requires : goal.settle_early-receive-requires
-settle_early-receive-requires c =
+pub settle_early-requires : goal.settle_early-requires
+settle_early-requires c =
     subst⁻¹ (λ (n : ℕ). rx.Packed n c.args.c.receive c.args.ram.now c.args.dir.now) c.rx_size.ensures.0 c.requires.0.frames
 
-pub settle-transmit-requires : goal.settle-transmit-requires
+pub settle-requires : goal.settle-requires
 unfolding view
-settle-transmit-requires c =
+settle-requires c =
     let d = c.args.c in
     subst⁻¹ (λ (n : ℕ). tx.Unsettled n d.transmit c.args.ram.now c.args.dir.now) c.tx_size.ensures.0
     (record { small = tx-small (d.config.second % 4); packed = c.requires.0.packets; stacked = c.requires.0.statuses; calm = tx-kept (view d c.args.ram.now c.args.dir.now) c.requires.1 })
 
 pub returns : goal.returns
 returns c =
-    sides_settle _ _ _ _ _ _ _ c.rx_size.ensures.0 c.tx_size.ensures.0 c.requires.0 c.requires.1 c.settle_early-receive.ensures c.settle-transmit.ensures
+    sides_settle _ _ _ _ _ _ _ c.rx_size.ensures.0 c.tx_size.ensures.0 c.requires.0 c.requires.1 c.settle_early.ensures c.settle.ensures

@@ -1,17 +1,21 @@
--- `regs::tx_size` meets its contract: the tests pick the split. Assumes nothing.
+-- `regs::tx_size` meets its contract: the split picks the size. Assumes nothing.
 use lib.Dec.{lit≤}
-use borrow.Author.Tests.{eq-eqb, ne_eqb}
+use native.Mathlib.Omega.{arith}
+use Prim.Native.Nat.{◌%◌}
+use borrow.Author.Tests.{ne_eqb}
 use Rattle.card_rules.specs.Room.{tx_size}
 use Rattle.regs.proofs.tx_size.Goals as goal
 
-pub returns-then-split-eq1 : goal.returns-then-split-eq1
+pub returns-in-1 : goal.returns-in-1
 unfolding tx_size
-returns-then-split-eq1 c = (rw (eq-eqb _ _ c.if-split-eq1.true), lit≤ tt)
+returns-in-1 c = (rw c.in-1.is, lit≤ tt)
 
-pub returns-then-split-eq2 : goal.returns-then-split-eq2
+pub returns-in-2 : goal.returns-in-2
 unfolding tx_size
-returns-then-split-eq2 c = (rw (ne_eqb _ _ c.if-split-eq1.false, eq-eqb _ _ c.if-split-eq2.true), lit≤ tt)
+returns-in-2 c = (rw c.in-2.is, lit≤ tt)
 
-pub returns : goal.returns
+pub returns-in_default : goal.returns-in_default
 unfolding tx_size
-returns c = (rw (ne_eqb _ _ c.if-split-eq1.false, ne_eqb _ _ c.if-split-eq2.false), lit≤ tt)
+returns-in_default c =
+    let s = c.args.second % 4 in
+    (rw (ne_eqb s 1 (λ e. omega (arith, c.in_default)), ne_eqb s 2 (λ e. omega (arith, c.in_default))), lit≤ tt)

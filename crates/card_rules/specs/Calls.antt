@@ -16,17 +16,19 @@ pub data Reply : Type 0 where
   done : Reply
   value : ℕ → Reply
 
-abbrev pub read_reply : Result ℕ Refusal → Reply
-read_reply (Ok v) = value v
-read_reply (Err why) = refused (number_of why)
+abbrev pub reply_of : {T : Type 0} → (T → Reply) → Result T Refusal → Reply
+reply_of says (Ok x) = says x
+reply_of says (Err why) = refused (number_of why)
 
-abbrev pub done_reply : Result ⊤ Refusal → Reply
-done_reply (Ok _) = done
-done_reply (Err why) = refused (number_of why)
+-- A read answers its value, a success how many bytes the wire was told; the other calls are done.
+abbrev pub read_reply : Result ℕ Refusal → Reply
+read_reply = reply_of value
 
 abbrev pub told_reply : Result ℕ Refusal → Reply
-told_reply (Ok n) = value n
-told_reply (Err why) = refused (number_of why)
+told_reply = reply_of value
+
+abbrev pub done_reply : Result ⊤ Refusal → Reply
+done_reply = reply_of (λ _. done)
 
 -- What a call's tests answer: 1 of an unsound state, then the call's own refusal.
 unfoldable pub tested : Bool → Bool → Refusal → Result ⊤ Refusal

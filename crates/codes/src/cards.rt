@@ -1,8 +1,10 @@
 // The card's answers in numbers.
 ghost use Rattle.std.specs.Prelude.{◌≡◌};
-ghost use Rattle.codes.specs.Codes.{done_code, read_code, read_value, told_code, told_count, coded_done, coded_read, coded_told, coded_line, rx_code, rx_word_of, rx_unread_of, coded_rx_status};
+ghost use Rattle.codes.specs.Codes.{coded_done, coded_read, coded_told, coded_line, coded_rx_status};
 
-use card_rules::{AfterCall, AfterRead, AfterSuccess, Card, Done, Read, RxStatus, Told};
+use crate::code;
+use card_rules::{After, Card, RxStatus};
+use refusal::Refusal;
 
 // The card after a call, and the code.
 #[repr(C)]
@@ -47,138 +49,51 @@ pub struct CardRxStatus {
     pub code: u8,
 }
 
-fn done_code(a: Done) -> u8
-    ensures { result ≡ done_code a }
-{
-    match a {
-        Done::Done => 0,
-        Done::Refused(why) => refusal::number(why),
-    }
-}
-
-fn read_code(a: Read) -> u8
-    ensures { result ≡ read_code a }
-{
-    match a {
-        Read::Value(_) => 0,
-        Read::Refused(why) => refusal::number(why),
-    }
-}
-
-fn read_value(a: Read) -> u16
-    ensures { result ≡ read_value a }
-{
-    match a {
-        Read::Value(v) => v,
-        Read::Refused(_) => 0,
-    }
-}
-
-fn told_code(a: Told) -> u8
-    ensures { result ≡ told_code a }
-{
-    match a {
-        Told::Told(_) => 0,
-        Told::Refused(why) => refusal::number(why),
-    }
-}
-
-fn told_count(a: Told) -> usize
-    ensures { result ≡ told_count a }
-{
-    match a {
-        Told::Told(n) => n,
-        Told::Refused(_) => 0,
-    }
-}
-
-pub fn coded_done(x: AfterCall) -> CardDone
+pub fn coded_done(x: After<()>) -> CardDone
     ensures { result ≡ coded_done x }
 {
-    let card = x.card;
-    let answer = x.answer;
-    let code = done_code(answer);
     CardDone {
-        card: card,
-        code: code,
+        card: x.card,
+        code: code(&x.answer),
     }
 }
 
-pub fn coded_read(x: AfterRead) -> CardRead
+pub fn coded_read(x: After<u16>) -> CardRead
     ensures { result ≡ coded_read x }
 {
-    let card = x.card;
-    let answer = x.answer;
-    let value = read_value(answer);
-    let code = read_code(answer);
     CardRead {
-        card: card,
-        value: value,
-        code: code,
+        card: x.card,
+        value: x.answer.unwrap_or(0),
+        code: code(&x.answer),
     }
 }
 
-pub fn coded_told(x: AfterSuccess) -> CardTold
+pub fn coded_told(x: After<usize>) -> CardTold
     ensures { result ≡ coded_told x }
 {
-    let card = x.card;
-    let answer = x.answer;
-    let n = told_count(answer);
-    let code = told_code(answer);
     CardTold {
-        card: card,
-        n: n,
-        code: code,
+        card: x.card,
+        n: x.answer.unwrap_or(0),
+        code: code(&x.answer),
     }
 }
 
-pub fn coded_line(x: Read) -> CardLine
+pub fn coded_line(x: Result<u16, Refusal>) -> CardLine
     ensures { result ≡ coded_line x }
 {
-    let line = read_value(x);
-    let code = read_code(x);
     CardLine {
-        line: line,
-        code: code,
+        line: x.unwrap_or(0),
+        code: code(&x),
     }
 }
 
-fn rx_code(a: RxStatus) -> u8
-    ensures { result ≡ rx_code a }
-{
-    match a {
-        RxStatus::Shows(_, _) => 0,
-        RxStatus::Refused(why) => refusal::number(why),
-    }
-}
-
-fn rx_word(a: RxStatus) -> u16
-    ensures { result ≡ rx_word_of a }
-{
-    match a {
-        RxStatus::Shows(word, _) => word,
-        RxStatus::Refused(_) => 0,
-    }
-}
-
-fn rx_unread(a: RxStatus) -> i16
-    ensures { result ≡ rx_unread_of a }
-{
-    match a {
-        RxStatus::Shows(_, unread) => unread,
-        RxStatus::Refused(_) => 0,
-    }
-}
-
-pub fn coded_rx_status(x: RxStatus) -> CardRxStatus
+pub fn coded_rx_status(x: Result<RxStatus, Refusal>) -> CardRxStatus
     ensures { result ≡ coded_rx_status x }
 {
-    let word = rx_word(x);
-    let unread = rx_unread(x);
-    let code = rx_code(x);
+    let told = x.unwrap_or(RxStatus { word: 0, unread: 0 });
     CardRxStatus {
-        word: word,
-        unread: unread,
-        code: code,
+        word: told.word,
+        unread: told.unread,
+        code: code(&x),
     }
 }

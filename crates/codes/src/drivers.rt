@@ -1,10 +1,10 @@
 // The driver's answers in numbers.
 ghost use Rattle.std.specs.Prelude.{◌≡◌};
-ghost use Rattle.refusal.specs.Number.{number_of};
-ghost use Rattle.codes.specs.Codes.{open_code, coded_opened, send_code, send_ticket, coded_sent, service_told, coded_served, coded_part};
+ghost use Rattle.codes.specs.Codes.{coded_opened, coded_sent, service_told, coded_served, coded_part};
 
+use crate::code;
 use card_rules::Card;
-use driver_rules::{Answer, Driver, OpenAnswer, Opened, SendAnswer, Sent, Serviced};
+use driver_rules::{After, Driver, Item, Serviced};
 use refusal::Refusal;
 
 // Card and driver after an open, and the code.
@@ -55,126 +55,64 @@ pub struct HandedUp {
     pub n: usize,
 }
 
-fn open_code(a: OpenAnswer) -> u8
-    ensures { result ≡ open_code a }
-{
-    match a {
-        OpenAnswer::Done => 0,
-        OpenAnswer::Refused(why) => refusal::number(why),
-    }
-}
-
-pub fn coded_opened(x: Opened) -> DriverDone
+pub fn coded_opened(x: After<()>) -> DriverDone
     ensures { result ≡ coded_opened x }
 {
-    let card = x.card;
-    let driver = x.driver;
-    let answer = x.answer;
-    let code = open_code(answer);
     DriverDone {
-        card: card,
-        driver: driver,
-        code: code,
+        card: x.card,
+        driver: x.driver,
+        code: code(&x.answer),
     }
 }
 
-fn send_code(a: SendAnswer) -> u8
-    ensures { result ≡ send_code a }
-{
-    match a {
-        SendAnswer::Ticket(_) => 0,
-        SendAnswer::Refused(why) => refusal::number(why),
-    }
-}
-
-fn send_ticket(a: SendAnswer) -> u16
-    ensures { result ≡ send_ticket a }
-{
-    match a {
-        SendAnswer::Ticket(ticket) => ticket,
-        SendAnswer::Refused(_) => 0,
-    }
-}
-
-pub fn coded_sent(x: Sent) -> DriverSent
+pub fn coded_sent(x: After<u16>) -> DriverSent
     ensures { result ≡ coded_sent x }
 {
-    let card = x.card;
-    let driver = x.driver;
-    let answer = x.answer;
-    let ticket = send_ticket(answer);
-    let code = send_code(answer);
     DriverSent {
-        card: card,
-        driver: driver,
-        ticket: ticket,
-        code: code,
+        card: x.card,
+        driver: x.driver,
+        ticket: x.answer.unwrap_or(0),
+        code: code(&x.answer),
     }
 }
 
-// A refusal's own number, and nothing else.
-fn service_refused(why: Refusal) -> Service
-    ensures { result ≡ record { kind = 0; code = number_of why; ticket = 0; status = 0; n = 0 } }
+// A refusal tells its code and nothing else.
+fn service_told(a: Result<Item, Refusal>) -> Service
+    ensures { result ≡ service_told a }
 {
-    let code = refusal::number(why);
-    Service {
+    let none = Service {
         kind: 0,
-        code: code,
+        code: code(&a),
         ticket: 0,
         status: 0,
         n: 0,
-    }
-}
-
-fn service_told(a: Answer) -> Service
-    ensures { result ≡ service_told a }
-{
+    };
     match a {
-        Answer::Reported(ticket, status) => Service {
+        Ok(Item::Reported(ticket, status)) => Service {
             kind: 1,
-            code: 0,
-            ticket: ticket,
-            status: status,
-            n: 0,
+            ticket,
+            status,
+            ..none
         },
-        Answer::Status(status) => Service {
+        Ok(Item::Status(status)) => Service {
             kind: 2,
-            code: 0,
-            ticket: 0,
-            status: status,
-            n: 0,
+            status,
+            ..none
         },
-        Answer::Frame(n) => Service {
-            kind: 3,
-            code: 0,
-            ticket: 0,
-            status: 0,
-            n: n,
-        },
-        Answer::Idle => Service {
-            kind: 4,
-            code: 0,
-            ticket: 0,
-            status: 0,
-            n: 0,
-        },
-        Answer::Refused(why) => service_refused(why),
+        Ok(Item::Frame(n)) => Service { kind: 3, n, ..none },
+        Ok(Item::Idle) => Service { kind: 4, ..none },
+        Err(_) => none,
     }
 }
 
 pub fn coded_served(x: Serviced) -> DriverServed
     ensures { result ≡ coded_served x }
 {
-    let card = x.card;
-    let driver = x.driver;
-    let answer = x.answer;
-    let accesses = x.used;
-    let told = service_told(answer);
     DriverServed {
-        card: card,
-        driver: driver,
-        answer: told,
-        accesses: accesses,
+        card: x.card,
+        driver: x.driver,
+        answer: service_told(x.answer),
+        accesses: x.used,
     }
 }
 
@@ -182,8 +120,10 @@ pub fn coded_served(x: Serviced) -> DriverServed
 pub fn coded_part(n: usize, len: usize) -> HandedUp
     ensures { result ≡ coded_part n len }
 {
-    if n <= judge::sizes::LOOKAHEAD_AREA {
-        return HandedUp { area: 1, n: len };
-    }
-    HandedUp { area: 2, n: len }
+    let area = if n <= judge::sizes::LOOKAHEAD_AREA {
+        1
+    } else {
+        2
+    };
+    HandedUp { area, n: len }
 }

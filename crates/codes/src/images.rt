@@ -2,7 +2,9 @@
 ghost use Rattle.std.specs.Prelude.{◌≡◌};
 ghost use Rattle.codes.specs.Codes.{coded_check};
 
-use image_rules::Checked;
+use crate::code;
+use image_rules::Node;
+use refusal::Refusal;
 
 // The node address, words 00h to 02h, and the code.
 #[repr(C)]
@@ -14,28 +16,18 @@ pub struct ImageChecked {
     pub code: u8,
 }
 
-pub fn coded_check(a: Checked) -> ImageChecked
+pub fn coded_check(a: Result<Node, Refusal>) -> ImageChecked
     ensures { result ≡ coded_check a }
 {
-    match a {
-        Checked::Sound {
-            node0,
-            node1,
-            node2,
-        } => ImageChecked {
-            node0: node0,
-            node1: node1,
-            node2: node2,
-            code: 0,
-        },
-        Checked::Refused(why) => {
-            let code = refusal::number(why);
-            ImageChecked {
-                node0: 0,
-                node1: 0,
-                node2: 0,
-                code: code,
-            }
-        }
+    let node = a.unwrap_or(Node {
+        node0: 0,
+        node1: 0,
+        node2: 0,
+    });
+    ImageChecked {
+        node0: node.node0,
+        node1: node.node1,
+        node2: node.node2,
+        code: code(&a),
     }
 }

@@ -1,6 +1,10 @@
 #![tactic(auto)]
 // Every answer in numbers, as C and Rust are told it.
 // A code is 0 for done, else the paper's number of the refusal. A value that a refused call does not have is 0.
+ghost use Rattle.std.specs.Prelude.{◌≡◌};
+ghost use Rattle.codes.specs.Codes as codes;
+
+use refusal::Refusal;
 
 pub mod cards; // cards.rt: the card's answers
 pub mod drivers; // drivers.rt: the driver's answers
@@ -17,3 +21,13 @@ pub use drivers::{
 };
 pub use images::{ImageChecked, coded_check};
 pub use ports::{BusDone, BusFound, coded_activated, coded_found};
+
+// The code of an answer, whatever it tells.
+fn code<T>(a: &Result<T, Refusal>) -> u8
+    ensures { result ≡ codes.code a.now }
+{
+    match a {
+        Ok(_) => 0,
+        Err(why) => refusal::number(*why),
+    }
+}

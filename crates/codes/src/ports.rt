@@ -1,8 +1,9 @@
 // The answers of the search and of an activation in numbers.
 ghost use Rattle.std.specs.Prelude.{◌≡◌};
-ghost use Rattle.codes.specs.Codes.{found_code, found_count, found_accesses, coded_found, activated_code, activated_accesses, coded_activated};
+ghost use Rattle.codes.specs.Codes.{coded_found, coded_activated};
 
-use port_rules::{Activation, AfterActivation, AfterSearch, Bus, Found};
+use crate::code;
+use port_rules::{After, AfterSearch, Bus, Cards};
 
 // The cards after a search; the addresses found, how many they are, the accesses used, and the code.
 #[repr(C)]
@@ -24,82 +25,28 @@ pub struct BusDone {
     pub code: u8,
 }
 
-fn found_code(a: Found) -> u8
-    ensures { result ≡ found_code a }
-{
-    match a {
-        Found::Refused(why) => refusal::number(why),
-        Found::Cards {
-            count: _,
-            accesses: _,
-        } => 0,
-    }
-}
-
-fn found_count(a: Found) -> usize
-    ensures { result ≡ found_count a }
-{
-    match a {
-        Found::Refused(_) => 0,
-        Found::Cards { count, accesses: _ } => count,
-    }
-}
-
-fn found_accesses(a: Found) -> usize
-    ensures { result ≡ found_accesses a }
-{
-    match a {
-        Found::Refused(_) => 0,
-        Found::Cards { count: _, accesses } => accesses,
-    }
-}
-
 pub fn coded_found(x: AfterSearch) -> BusFound
     ensures { result ≡ coded_found x }
 {
-    let bus = x.bus;
-    let answer = x.answer;
-    let addresses = x.addresses;
-    let count = found_count(answer);
-    let accesses = found_accesses(answer);
-    let code = found_code(answer);
+    let found = x.answer.unwrap_or(Cards {
+        count: 0,
+        accesses: 0,
+    });
     BusFound {
-        bus: bus,
-        addresses: addresses,
-        count: count,
-        accesses: accesses,
-        code: code,
+        bus: x.bus,
+        addresses: x.addresses,
+        count: found.count,
+        accesses: found.accesses,
+        code: code(&x.answer),
     }
 }
 
-fn activated_code(a: Activation) -> u8
-    ensures { result ≡ activated_code a }
-{
-    match a {
-        Activation::Refused(why) => refusal::number(why),
-        Activation::Done { accesses: _ } => 0,
-    }
-}
-
-fn activated_accesses(a: Activation) -> usize
-    ensures { result ≡ activated_accesses a }
-{
-    match a {
-        Activation::Refused(_) => 0,
-        Activation::Done { accesses } => accesses,
-    }
-}
-
-pub fn coded_activated(x: AfterActivation) -> BusDone
+pub fn coded_activated(x: After<usize>) -> BusDone
     ensures { result ≡ coded_activated x }
 {
-    let bus = x.bus;
-    let answer = x.answer;
-    let accesses = activated_accesses(answer);
-    let code = activated_code(answer);
     BusDone {
-        bus: bus,
-        accesses: accesses,
-        code: code,
+        bus: x.bus,
+        accesses: x.answer.unwrap_or(0),
+        code: code(&x.answer),
     }
 }

@@ -12,134 +12,102 @@ use transmit::outcomes;
 use transmit_rules::{Fifo, Outcomes, Transmit};
 
 // Select Window.
-pub fn select_window(c: Card, x: u16) -> Card
+pub fn select_window(mut c: Card, x: u16) -> Card
     ensures { result ≡ card_select (select_window (x % 8) c.select) c }
 {
-    let window = x % 8;
-    let mut next = c;
-    next.select.window = window;
-    next
+    c.select.window = x % 8;
+    c
 }
 
 // RX Disable and RX Enable.
-pub fn receive_on(c: Card, on: bool) -> Card
+pub fn receive_on(mut c: Card, on: bool) -> Card
     ensures { result ≡ card_receiver (with_on on c.receive.receiver) c }
 {
-    let mut next = c;
-    next.receive.receiver.on = on;
-    next
+    c.receive.receiver.on = on;
+    c
 }
 
 // RX Reset.
-pub fn rx_reset(c: Card) -> Card
+pub fn rx_reset(mut c: Card) -> Card
     ensures { Does c result rx_reset }
 {
-    let wire = receive::deafen(c.receive.receiver.wire);
-    let receive = regs::quiet(wire);
-    let mut next = c;
-    next.select.filter = 0;
-    next.receive = receive;
-    next
+    c.select.filter = 0;
+    c.receive = regs::quiet(receive::deafen(c.receive.receiver.wire));
+    c
 }
 
 // The card with other outcomes.
-pub fn with_outcomes(c: Card, o: Outcomes) -> Card
+pub fn with_outcomes(mut c: Card, o: Outcomes) -> Card
     ensures { result ≡ card_outcomes o c }
 {
-    let fifo = c.transmit.fifo;
-    let transmit = Transmit {
-        fifo: fifo,
-        outcomes: o,
-    };
-    let mut next = c;
-    next.transmit = transmit;
-    next
+    c.transmit.outcomes = o;
+    c
 }
 
 // TX Reset.
-pub fn tx_reset(c: Card) -> Card
+pub fn tx_reset(mut c: Card) -> Card
     requires { Stacked c.transmit.outcomes }
     ensures { Does c result tx_reset }
 {
-    let o = transmit::reset(c.transmit.outcomes);
-    let fifo = Fifo {
-        failed: false,
-        packets: 0,
-        words: 0,
+    c.transmit = Transmit {
+        fifo: Fifo {
+            failed: false,
+            packets: 0,
+            words: 0,
+        },
+        outcomes: transmit::reset(c.transmit.outcomes),
     };
-    let transmit = Transmit {
-        fifo: fifo,
-        outcomes: o,
-    };
-    let mut next = c;
-    next.transmit = transmit;
-    next
+    c
 }
 
 // Request Interrupt.
-pub fn request(c: Card) -> Card
+pub fn request(mut c: Card) -> Card
     ensures { result ≡ card_lines (lines_requested true c.lines) c }
 {
-    let mut next = c;
-    next.lines.requested = true;
-    next
+    c.lines.requested = true;
+    c
 }
 
 // Acknowledge.
-pub fn acknowledge(c: Card, x: u16) -> Card
+pub fn acknowledge(mut c: Card, x: u16) -> Card
     requires { Stacked c.transmit.outcomes }
     ensures { Does c result (acknowledge_of x) }
 {
-    let latch = !bits::has(x, 1) & c.lines.latch;
-    let requested = !bits::has(x, 64) & c.lines.requested;
-    let early = !bits::has(x, 32) & c.receive.receiver.early;
-    let o = outcomes::acknowledge(c.transmit.outcomes, bits::has(x, 8));
-    let mut next = with_outcomes(c, o);
-    next.lines.latch = latch;
-    next.lines.requested = requested;
-    next.receive.receiver.early = early;
-    next
+    c.lines.latch = !bits::has(x, 1) & c.lines.latch;
+    c.lines.requested = !bits::has(x, 64) & c.lines.requested;
+    c.receive.receiver.early = !bits::has(x, 32) & c.receive.receiver.early;
+    c.transmit.outcomes = outcomes::acknowledge(c.transmit.outcomes, bits::has(x, 8));
+    c
 }
 
 // The interrupt mask.
-pub fn set_mask(c: Card, x: u16) -> Card
+pub fn set_mask(mut c: Card, x: u16) -> Card
     ensures { result ≡ card_select (select_mask (mask_of x) c.select) c }
 {
-    let mask = x % 256 / 2 * 2;
-    let mut next = c;
-    next.select.mask = mask;
-    next
+    c.select.mask = x % 256 / 2 * 2;
+    c
 }
 
 // The Read Zero mask.
-pub fn set_zero(c: Card, x: u16) -> Card
+pub fn set_zero(mut c: Card, x: u16) -> Card
     ensures { result ≡ card_select (select_zero (mask_of x) c.select) c }
 {
-    let zero = x % 256 / 2 * 2;
-    let mut next = c;
-    next.select.zero = zero;
-    next
+    c.select.zero = x % 256 / 2 * 2;
+    c
 }
 
 // The RX filter.
-pub fn set_filter(c: Card, x: u16) -> Card
+pub fn set_filter(mut c: Card, x: u16) -> Card
     ensures { result ≡ card_select (select_filter (x % 16) c.select) c }
 {
-    let filter = x % 16;
-    let mut next = c;
-    next.select.filter = filter;
-    next
+    c.select.filter = x % 16;
+    c
 }
 
 // RX Early: an argument below the least is stored as the least.
-pub fn set_early(c: Card, x: u16) -> Card
+pub fn set_early(mut c: Card, x: u16) -> Card
     ensures { result ≡ card_receiver (with_threshold (early_threshold x) c.receive.receiver) c }
 {
-    let mut next = c;
-    if x < receive::EARLY_LEAST {
-        next.receive.receiver.threshold = receive::EARLY_LEAST;
-        return next;
-    }
-    next.receive.receiver.threshold = x;
-    next
+    c.receive.receiver.threshold = x.max(receive::EARLY_LEAST);
+    c
 }

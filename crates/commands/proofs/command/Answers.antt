@@ -6,13 +6,13 @@ use Rattle.commands.proofs.command.Goals as goal
 pub discard-requires : goal.discard-requires
 discard-requires c = c.requires
 
-pub returns-then-n-eq8 : goal.returns-then-n-eq8
+pub returns-then-n-eq-RX_DISCARD : goal.returns-then-n-eq-RX_DISCARD
 unfolding command
-returns-then-n-eq8 c = rw (eq-eqb _ _ c.if-n-eq8.true) c.discard.ensures
+returns-then-n-eq-RX_DISCARD c = rw (eq-eqb _ _ c.if-n-eq-RX_DISCARD.true) c.discard.ensures
 
 pub act-requires : goal.act-requires
 act-requires c = c.requires.held.statuses
 
 pub returns : goal.returns
 unfolding command
-returns c = rw (ne_eqb _ _ c.if-n-eq8.false) (c.act.ensures _ _ c.requires.held)
+returns c = rw (ne_eqb _ _ c.if-n-eq-RX_DISCARD.false) (c.act.ensures _ _ c.requires.held)

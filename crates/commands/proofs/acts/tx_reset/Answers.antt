@@ -3,4 +3,4 @@ use Rattle.card_rules.proofs.Effects.{tx-reset-does}
 use Rattle.commands.proofs.acts.tx_reset.Goals as goal
 
 pub returns : goal.returns
-returns c = tx-reset-does _ _ c.reset-o.ensures
+returns c = tx-reset-does _ _ c.reset.ensures

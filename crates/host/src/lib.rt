@@ -40,10 +40,7 @@ pub fn arg(rt: &HostRuntime, i: usize, room: &mut [u8]) -> io::Result<usize>
 
 // A file's name as std takes it: text. One that is not UTF-8 opens no file.
 pub fn name(path: &[u8]) -> io::Result<&str> {
-    match std::str::from_utf8(path) {
-        Ok(text) => Ok(text),
-        Err(_) => Err(Error::from_raw_os_error(NO_TEXT)),
-    }
+    std::str::from_utf8(path).map_err(|_| Error::from_raw_os_error(NO_TEXT))
 }
 
 // Opens a file to read it.

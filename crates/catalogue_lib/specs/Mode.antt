@@ -1,6 +1,7 @@
--- What `mode_of` may answer: twelve bits, or the one number that says that the system does not tell.
+-- What `mode_of` may answer: twelve bits, or nothing where the system does not tell.
 -- Assumes nothing.
-use Rattle.std.specs.Prelude.{ℕ, Bool, ◌||◌, eqb, ltb}
+use Rattle.std.specs.Prelude.{ℕ, Bool, true, Option, Some, None, ltb}
 
-abbrev pub is_mode : ℕ → Bool
-is_mode n = ltb n 4096 || eqb n 65536
+abbrev pub is_mode : Option ℕ → Bool
+is_mode None = true
+is_mode (Some n) = ltb n 4096

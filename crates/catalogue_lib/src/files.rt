@@ -1,6 +1,5 @@
 // Files by name: read whole, and replaced whole; - is standard input or output. What fails is said on standard error.
-ghost use Rattle.std.specs.Prelude.{◌≡◌, ◌+◌, ◌≤◌, length, slice_index};
-ghost use Rattle.host.specs.Counts.{IsPrefixLen};
+ghost use Rattle.std.specs.Prelude.{◌≡◌, ◌+◌, ◌≤◌, length, slice_index, IfOk, IfSome};
 
 use crate::file_mode;
 use std::fs::{File, OpenOptions, Permissions};
@@ -19,119 +18,62 @@ pub fn room() -> [u8; ROOM]
     [0; ROOM]
 }
 
-// How much was read, and whether the file goes on.
+// What was read of a file, at the start of the room, and whether the file goes on.
 #[derive(Clone, Copy)]
-pub struct Got {
-    pub ok: bool,
-    pub len: usize,
+pub struct Got<'a> {
+    pub bytes: &'a [u8],
     pub more: bool,
 }
 
-// The same before a failure is said: what one byte more gave.
-#[derive(Clone, Copy)]
-struct Taken {
-    len: usize,
-    next: io::Result<usize>,
-}
-
 // Reads as much as the room holds. One byte more tells a read that failed, a folder's too, and a file that goes on.
-fn take<R: Read>(from: &mut R, room: &mut [u8]) -> Taken
-    ensures { IsPrefixLen result.len room.new }
+fn take<'a, R: Read>(from: &mut R, room: &'a mut [u8]) -> io::Result<Got<'a>>
+    ensures { IfOk result (λ got. length got.bytes.now ≤ length room.old) }
 {
     let len = host::read_full(from, room);
-    let mut next = [0u8; 1];
-    Taken {
-        len,
-        next: from.read(&mut next),
-    }
+    let next = from.read(&mut [0u8; 1])?;
+    Ok(Got {
+        bytes: &room[..len],
+        more: 0 < next,
+    })
 }
 
-fn got_of(taken: Taken) -> Got
-    ensures { result.len ≡ taken.len }
+// Looks into the start of a file that may be missing, and says nothing.
+pub fn peek<'a>(rt: &HostRuntime, path: &[u8], room: &'a mut [u8]) -> io::Result<Got<'a>>
+    ensures { IfOk result (λ got. length got.bytes.now ≤ length room.old) }
 {
-    match taken.next {
-        Ok(next) => Got {
-            ok: true,
-            len: taken.len,
-            more: 0 < next,
-        },
-        Err(_) => Got {
-            ok: false,
-            len: taken.len,
-            more: false,
-        },
-    }
+    let mut file = host::open(rt, path)?;
+    take(&mut file, room)
 }
 
-// Nothing was read.
-fn nothing() -> Got
-    ensures { result.len ≡ 0 }
+// Reads the start of a file, as much as the room holds; - is standard input. Says what failed.
+pub fn read_start<'a>(rt: &HostRuntime, path: &[u8], room: &'a mut [u8]) -> Option<Got<'a>>
+    ensures { IfSome result (λ got. length got.bytes.now ≤ length room.old) }
 {
-    Got {
-        ok: false,
-        len: 0,
-        more: false,
-    }
-}
-
-// The same as `take`, and says what failed.
-fn take_of<R: Read>(rt: &HostRuntime, what: &[u8], from: &mut R, room: &mut [u8]) -> Got
-    ensures { IsPrefixLen result.len room.new }
-{
-    let taken = take(from, room);
-    if let Err(why) = taken.next {
-        host::fail(rt, what, why);
-    }
-    got_of(taken)
-}
-
-// The same of standard input.
-fn take_input(rt: &HostRuntime, room: &mut [u8]) -> Got
-    ensures { IsPrefixLen result.len room.new }
-{
-    take_of(rt, b"standard input", &mut rt.stdin(), room)
-}
-
-// Reads the start of a file, as much as the room holds; - is standard input.
-pub fn read_start(rt: &HostRuntime, path: &[u8], room: &mut [u8]) -> Got
-    ensures { IsPrefixLen result.len room.new }
-{
-    if catalogue_text::is_dash(path) {
-        return take_input(rt, room);
-    }
-    match host::open(rt, path) {
-        Ok(mut file) => take_of(rt, path, &mut file, room),
+    let got = if catalogue_text::is_dash(path) {
+        take(&mut rt.stdin(), room)
+    } else {
+        peek(rt, path, room)
+    };
+    match got {
+        Ok(got) => Some(got),
         Err(why) => {
-            host::fail(rt, path, why);
-            nothing()
+            host::fail(rt, catalogue_text::source(path), why);
+            None
         }
     }
 }
 
 // Reads a whole file. One that the room does not hold is refused.
-pub fn read(rt: &HostRuntime, path: &[u8], room: &mut [u8]) -> Got
-    ensures { IsPrefixLen result.len room.new }
+pub fn read<'a>(rt: &HostRuntime, path: &[u8], room: &'a mut [u8]) -> Option<&'a [u8]>
+    ensures { IfSome result (λ bytes. length bytes.now ≤ length room.old) }
 {
-    let got = read_start(rt, path, room);
+    let size = room.len();
+    let got = read_start(rt, path, room)?;
     if got.more {
-        catalogue_text::larger(rt, path, room.len());
-        return Got {
-            ok: false,
-            len: got.len,
-            more: true,
-        };
+        catalogue_text::larger(rt, path, size);
+        return None;
     }
-    got
-}
-
-// Looks into the start of a file that may be missing, and says nothing.
-pub fn peek(rt: &HostRuntime, path: &[u8], room: &mut [u8]) -> Got
-    ensures { IsPrefixLen result.len room.new }
-{
-    match host::open(rt, path) {
-        Ok(mut file) => got_of(take(&mut file, room)),
-        Err(_) => nothing(),
-    }
+    Some(got.bytes)
 }
 
 // Writes a whole file, - to standard output, and answers whether it was written.
@@ -147,15 +89,14 @@ pub fn put(rt: &HostRuntime, path: &[u8], bytes: &[u8]) -> bool {
 // The longest path that leaves room for a tail of seven bytes in what the system takes, 4,095.
 pub const LONGEST: usize = 4088;
 
-// A path with a tail behind it, and zeros.
-pub fn with_tail(path: &[u8], tail: &[u8]) -> [u8; 4096]
+// A path with a tail behind it, put at the start of the room.
+pub fn with_tail<'a>(room: &'a mut [u8; 4096], path: &[u8], tail: &[u8]) -> &'a mut [u8]
     requires { length path.now + length tail.now ≤ 4095 }
-    ensures { 4096 ≡ length result }
+    ensures { length result.now ≡ length path.now + length tail.now }
 {
-    let mut name = [0u8; 4096];
-    let end = path.len() + tail.len();
+    let name = &mut room[..path.len() + tail.len()];
     name[..path.len()].copy_from_slice(path);
-    name[path.len()..end].copy_from_slice(tail);
+    name[path.len()..].copy_from_slice(tail);
     name
 }
 
@@ -163,11 +104,8 @@ pub fn with_tail(path: &[u8], tail: &[u8]) -> [u8; 4096]
 fn ended(name: &[u8; 4096]) -> &[u8]
     requires { slice_index name.now 4095 ≡ 0 }
 {
-    let mut n = 0;
-    while name[n] != 0 {
-        n = n + 1;
-    }
-    &name[..n]
+    let end = name.iter().position(|b| *b == 0).unwrap_or(4095);
+    &name[..end]
 }
 
 // Whether a path may be written, so that a rename takes the place of a file or of nothing. Says why not.
@@ -189,7 +127,8 @@ pub fn may_be_written(rt: &HostRuntime, path: &[u8]) -> bool
 fn is_link(rt: &HostRuntime, path: &[u8]) -> bool
     requires { length path.now ≤ 4088 }
 {
-    let mut name = with_tail(path, b"");
+    let mut name = [0u8; 4096];
+    name[..path.len()].copy_from_slice(path);
     name[4095] = 0;
     let Ok(text) = host::name(ended(&name)) else {
         return false;
@@ -221,9 +160,9 @@ fn replace(rt: &HostRuntime, path: &[u8], bytes: &[u8]) -> bool {
     if !may_be_written(rt, path) {
         return false;
     }
-    let mut name = with_tail(path, b".XXXXXX");
-    let end = path.len() + 7;
-    if let Err(why) = write_over(rt, path, &mut name[..end], bytes) {
+    let mut room = [0u8; 4096];
+    let name = with_tail(&mut room, path, b".XXXXXX");
+    if let Err(why) = write_over(rt, path, name, bytes) {
         host::fail(rt, path, why);
         return false;
     }
@@ -262,11 +201,10 @@ fn keep_mode(rt: &HostRuntime, path: &[u8], file: &File) -> io::Result<()> {
         Err(why) if why.kind() == ErrorKind::NotFound => return Ok(()),
         Err(why) => return Err(why),
     };
-    let mode = file_mode::mode_of(&old);
-    if mode == file_mode::UNKNOWN {
-        return Err(Error::other("the system does not tell its mode"));
+    match file_mode::mode_of(&old) {
+        Some(mode) => file.set_permissions(Permissions::from_mode(mode % 512)),
+        None => Err(Error::other("the system does not tell its mode")),
     }
-    file.set_permissions(Permissions::from_mode(mode % 512))
 }
 
 // Settles the mode before a byte is in the file, writes the bytes and flushes them to disk.
@@ -325,30 +263,15 @@ fn letter(drawn: u8) -> u8 {
 
 // Flushes the folder that a file stands in, so that the new name lasts too. Not every kind of file system can.
 fn flush_folder(rt: &HostRuntime, path: &[u8]) {
-    let n = folder(path);
-    if n == 0 {
-        flush(rt, b".");
-        return;
-    }
-    flush(rt, &path[..n]);
-}
-
-fn flush(rt: &HostRuntime, folder: &[u8]) {
-    if let Ok(open) = host::open(rt, folder) {
+    if let Ok(open) = host::open(rt, folder(path)) {
         let _ = open.sync_all();
     }
 }
 
-// How many bytes of a path name its folder, the last slash among them.
-fn folder(path: &[u8]) -> usize
-    ensures { IsPrefixLen result path.now }
-{
-    let mut n = path.len();
-    while 0 < n {
-        if path[n - 1] == b'/' {
-            return n;
-        }
-        n = n - 1;
+// The part of a path that names its folder, the last slash among it; a dot where there is none.
+fn folder(path: &[u8]) -> &[u8] {
+    match path.iter().rposition(|b| *b == b'/') {
+        Some(slash) => &path[..slash + 1],
+        None => b".",
     }
-    n
 }

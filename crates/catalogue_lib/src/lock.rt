@@ -9,15 +9,11 @@ const TRIES: usize = 50000;
 
 // Makes the file, which no other program can make while it stands.
 fn made(rt: &HostRuntime, name: &[u8]) -> io::Result<File> {
-    let mut left = TRIES;
-    while 0 < left {
+    for _ in 0..TRIES {
         match files::create(rt, name) {
-            Ok(lock) => return Ok(lock),
-            Err(why) if why.kind() == ErrorKind::AlreadyExists => {}
-            Err(why) => return Err(why),
+            Err(why) if why.kind() == ErrorKind::AlreadyExists => hint::spin_loop(),
+            made => return made,
         }
-        hint::spin_loop();
-        left = left - 1;
     }
     files::create(rt, name)
 }
@@ -34,9 +30,8 @@ pub fn take(rt: &HostRuntime, path: &[u8]) -> bool {
     if !files::may_be_written(rt, path) {
         return false;
     }
-    let name = files::with_tail(path, b".lock");
-    let end = path.len() + 5;
-    match made(rt, &name[..end]) {
+    let mut room = [0u8; 4096];
+    match made(rt, files::with_tail(&mut room, path, b".lock")) {
         Ok(_) => true,
         Err(why) if why.kind() == ErrorKind::AlreadyExists => {
             catalogue_text::locked(rt, path);
@@ -51,15 +46,12 @@ pub fn take(rt: &HostRuntime, path: &[u8]) -> bool {
 
 // Lets go of a lock that was taken. One that cannot be removed is told.
 pub fn release(rt: &HostRuntime, path: &[u8]) {
-    if catalogue_text::is_dash(path) {
+    if catalogue_text::is_dash(path) || files::LONGEST < path.len() {
         return;
     }
-    if files::LONGEST < path.len() {
-        return;
-    }
-    let name = files::with_tail(path, b".lock");
-    let end = path.len() + 5;
-    if let Err(why) = files::remove(rt, &name[..end]) {
-        host::fail(rt, &name[..end], why);
+    let mut room = [0u8; 4096];
+    let name = files::with_tail(&mut room, path, b".lock");
+    if let Err(why) = files::remove(rt, name) {
+        host::fail(rt, name, why);
     }
 }

@@ -1,9 +1,7 @@
 #![tactic(auto)]
 // What the program says, answers on standard output and messages on standard error, and the words that it reads. Proved safe and
 // ending; what is written is tested.
-ghost use Rattle.std.specs.Prelude.{◌≤◌};
-
-use catalogue_rules::Found;
+use catalogue_rules::{ADDRESS, Counts, NUMBER};
 use std::io;
 
 // Answers whether it was written.
@@ -13,14 +11,6 @@ pub fn tell(rt: &HostRuntime, text: &[u8]) -> io::Result<()> {
 
 pub fn warn(rt: &HostRuntime, text: &[u8]) {
     let _ = rt.stderr().write_all(text);
-}
-
-pub fn warn_number(rt: &HostRuntime, n: usize) {
-    let _ = rt.stderr().print(n);
-}
-
-pub fn warn_address(rt: &HostRuntime, address: u64) {
-    let _ = print_hex(&rt.stderr(), address, 12);
 }
 
 // Says so where standard output did not take all.
@@ -60,204 +50,116 @@ pub fn is_dash(path: &[u8]) -> bool {
 }
 
 // The name of a file that is read.
-pub fn source(rt: &HostRuntime, path: &[u8]) {
+pub fn source(path: &[u8]) -> &[u8] {
     if is_dash(path) {
-        warn(rt, b"standard input");
-        return;
+        return b"standard input";
     }
+    path
+}
+
+// What is wrong with a file, behind its name.
+fn of_file(rt: &HostRuntime, path: &[u8], what: &[u8]) {
     warn(rt, path);
+    warn(rt, what);
 }
 
 pub fn larger(rt: &HostRuntime, path: &[u8], room: usize) {
-    source(rt, path);
-    warn(rt, b": larger than ");
-    warn_number(rt, room);
-    warn(rt, b" bytes\n");
+    warn(rt, source(path));
+    let _ = eprintln!(rt; ": larger than {room} bytes");
 }
 
 pub fn too_long(rt: &HostRuntime, path: &[u8]) {
-    warn(rt, path);
-    warn(rt, b": the name is too long\n");
+    of_file(rt, path, b": the name is too long\n");
 }
 
 pub fn link(rt: &HostRuntime, path: &[u8]) {
-    warn(rt, path);
-    warn(rt, b": a symbolic link; name the file that it leads to\n");
+    of_file(
+        rt,
+        path,
+        b": a symbolic link; name the file that it leads to\n",
+    );
 }
 
 pub fn stands(rt: &HostRuntime, path: &[u8]) {
-    warn(rt, path);
-    warn(rt, b": stands already; --replace writes over it\n");
+    of_file(rt, path, b": stands already; --replace writes over it\n");
 }
 
 pub fn catalogue_stands(rt: &HostRuntime, path: &[u8]) {
-    warn(rt, path);
-    warn(
+    of_file(
         rt,
+        path,
         b": a catalogue stands there; --replace writes over it\n",
     );
 }
 
 pub fn locked(rt: &HostRuntime, path: &[u8]) {
-    warn(rt, path);
-    warn(rt, b".lock: stands already; another program is changing ");
-    warn(rt, path);
-    warn(rt, b" (if none is, remove it)\n");
+    of_file(
+        rt,
+        path,
+        b".lock: stands already; another program is changing ",
+    );
+    of_file(rt, path, b" (if none is, remove it)\n");
 }
 
-pub fn sound(rt: &HostRuntime, cards: usize, fields: usize) {
-    let mut whole = tell(rt, b"sound: ");
-    whole = rt.print(cards).and(whole);
-    whole = tell(rt, b" cards, ").and(whole);
-    whole = rt.print(fields).and(whole);
-    whole = tell(rt, b" fields\n").and(whole);
-    told(rt, whole);
+pub fn sound(rt: &HostRuntime, counts: Counts) {
+    let Counts { cards, fields } = counts;
+    told(rt, println!(rt; "sound: {cards} cards, {fields} fields"));
 }
 
 // The version that a card got.
 pub fn added(rt: &HostRuntime, number: u16, address: u64) {
-    let mut whole = tell(rt, b"version ");
-    whole = rt.print(number).and(whole);
-    whole = tell(rt, b" of ").and(whole);
-    whole = print_hex(rt, address, 12).and(whole);
-    whole = tell(rt, b"\n").and(whole);
-    told(rt, whole);
+    told(rt, println!(rt; "version {number} of {address:012X}"));
 }
 
 // A word of an image that another image has otherwise.
 pub fn changed(rt: &HostRuntime, word: usize, old: u16, new: u16) -> io::Result<()> {
-    let mut whole = tell(rt, b"word ");
-    whole = print_hex(rt, word as u64, 2).and(whole);
-    whole = tell(rt, b": ").and(whole);
-    whole = print_hex(rt, old as u64, 4).and(whole);
-    whole = tell(rt, b" -> ").and(whole);
-    whole = print_hex(rt, new as u64, 4).and(whole);
-    tell(rt, b"\n").and(whole)
-}
-
-// Upper-case hexadecimal digits, as many as asked, of the number's low end.
-pub fn print_hex(to: &impl Print, number: u64, width: usize) -> io::Result<()>
-    requires { width ≤ 12 }
-{
-    let mut digits = [48u8; 12];
-    let mut left = number;
-    let mut at = 12;
-    while 0 < at {
-        at = at - 1;
-        digits[at] = hex_text::digit((left % 16) as u16);
-        left = left / 16;
-    }
-    let first = 12 - width;
-    to.write_all(&digits[first..])
+    println!(rt; "word {word:02X}: {old:04X} -> {new:04X}")
 }
 
 // A card to a line: its address, and the numbers of its versions.
 pub fn cards(rt: &HostRuntime, file: &[u8]) {
+    told(rt, card_lines(rt, file));
+}
+
+fn card_lines(rt: &HostRuntime, file: &[u8]) -> io::Result<()> {
     let mut at = 0;
     let mut some = false;
-    let mut whole = Ok(());
-    loop {
-        match catalogue_read::field_at(file, at) {
-            Found::Cut => {
+    while let Some(field) = catalogue_read::field_at(file, at) {
+        match field.tag {
+            ADDRESS => {
                 if some {
-                    whole = tell(rt, b"\n").and(whole);
+                    println!(rt)?;
                 }
-                told(rt, whole);
-                return;
+                let address = catalogue_read::address_at(file, field.start, field.len);
+                print!(rt; "{address:012X}")?;
+                some = true;
             }
-            Found::Whole { tag, start, len } => {
-                if tag == 1 {
-                    if some {
-                        whole = tell(rt, b"\n").and(whole);
-                    }
-                    whole = print_hex(rt, catalogue_read::address_at(file, start, len), 12).and(
-                        whole,
-                    );
-                    some = true;
-                }
-                if tag == 2 {
-                    whole = tell(rt, b" ").and(whole);
-                    whole = rt
-                        .print(catalogue_read::value_number(file, start, len))
-                        .and(whole);
-                }
-                at = start + len;
+            NUMBER => {
+                let number = catalogue_read::value_number(file, field.start, field.len);
+                print!(rt; " {number}")?;
             }
+            _ => {}
         }
+        at = field.start + field.len;
     }
-}
-
-// A digit's value; 255 where it is none.
-fn digit(b: u8) -> u8 {
-    match b {
-        48..=57 => b - 48,
-        65..=70 => b - 55,
-        97..=102 => b - 87,
-        _ => 255,
+    if some {
+        println!(rt)?;
     }
-}
-
-// An address read, or none.
-#[derive(Clone, Copy)]
-pub struct AddressRead {
-    pub ok: bool,
-    pub value: u64,
+    Ok(())
 }
 
 // Twelve hexadecimal digits, upper or lower case.
-pub fn address(word: &[u8]) -> AddressRead {
-    if word.len() != 12 {
-        return AddressRead {
-            ok: false,
-            value: 0,
-        };
+pub fn address(word: &[u8]) -> Option<u64> {
+    if word.len() != 12 || !word.iter().all(|b| b.is_ascii_hexdigit()) {
+        return None;
     }
-    let mut value: u64 = 0;
-    let mut i = 0;
-    while i < 12 {
-        let d = digit(word[i]);
-        if 16 <= d {
-            return AddressRead {
-                ok: false,
-                value: 0,
-            };
-        }
-        value = value % 17592186044416 * 16 + d as u64;
-        i = i + 1;
-    }
-    AddressRead { ok: true, value }
-}
-
-// A version's number read, or none.
-#[derive(Clone, Copy)]
-pub struct VersionRead {
-    pub ok: bool,
-    pub value: u16,
+    u64::from_str_radix(std::str::from_utf8(word).ok()?, 16).ok()
 }
 
 // A number of at most 65,535, in at most five decimal digits.
-pub fn version(word: &[u8]) -> VersionRead {
-    let mut value: u64 = 0;
-    let mut i = 0;
-    while i < word.len() {
-        let d = digit(word[i]);
-        if 10 <= d {
-            return VersionRead {
-                ok: false,
-                value: 0,
-            };
-        }
-        value = value % 100000 * 10 + d as u64;
-        i = i + 1;
+pub fn version(word: &[u8]) -> Option<u16> {
+    if 5 < word.len() || !word.iter().all(|b| b.is_ascii_digit()) {
+        return None;
     }
-    if (word.len() == 0) | (5 < word.len()) | (65535 < value) {
-        return VersionRead {
-            ok: false,
-            value: 0,
-        };
-    }
-    VersionRead {
-        ok: true,
-        value: (value % 65536) as u16,
-    }
+    std::str::from_utf8(word).ok()?.parse().ok()
 }

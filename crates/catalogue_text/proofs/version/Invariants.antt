@@ -1,9 +1,0 @@
--- `catalogue_text::version` is safe and ends: the loop's place stays within what it walks.
-use Rattle.std.proofs.Common.{length, ◌-◌, ◌≤◌}
-use Rattle.catalogue_text.proofs.version.Given as goal
-
-abbrev pub invariant-loop-i : goal.invariant-loop-i
-invariant-loop-i l = l.i ≤ length l.word
-
-abbrev pub decreases-loop-i : goal.decreases-loop-i
-decreases-loop-i l = length l.word - l.i

@@ -1,34 +1,15 @@
 // Whether the cards on one ID port are sound, and the tests of the calls' arguments.
-ghost use Rattle.std.specs.Prelude.{◌≡◌, min, take};
+ghost use Rattle.std.specs.Prelude.{◌≡◌};
 ghost use Rattle.port_rules.specs.Gathered.{all_sound, is_port, naming, digit_of};
 
 use crate::id_sound;
 use port_rules::IdState;
 
-// How many cards there are to test: no more than there are places.
-fn at_most_eight(n: usize) -> usize
-    ensures { result ≡ min n 8 }
+// Whether each card is sound.
+pub fn all_sound(cards: &[IdState]) -> bool
+    ensures { result ≡ all_sound cards.now }
 {
-    if n < 8 {
-        return n;
-    }
-    8
-}
-
-// Whether each of the first `count` cards is sound.
-pub fn all_sound(cards: [IdState; 8], count: usize) -> bool
-    ensures { result ≡ all_sound (take count cards) }
-{
-    let n = at_most_eight(count);
-    let mut sound = true;
-    let mut i: usize = 0;
-    while i < n {
-        let c = cards[i];
-        let one = id_sound(c);
-        sound = sound & one;
-        i += 1;
-    }
-    sound
+    cards.iter().all(|card| id_sound(*card))
 }
 
 // Whether the port is one of 100h, 110h, .. 1F0h.
@@ -39,6 +20,7 @@ pub fn is_port(port: u16) -> bool
 }
 
 // Whether the tag is 1 to 7 and the base number at most 31.
+#[tactic(auto, unfolding(port_rules::specs::Gathered::naming))]
 pub fn names(tag: u8, base: u8) -> bool
     ensures { result ≡ naming tag base }
 {

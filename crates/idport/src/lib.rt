@@ -21,21 +21,21 @@ pub use sequence::byte_at;
 pub fn fresh(words: [u16; 64]) -> IdState
     ensures { contract.Fresh words result }
 {
-    let address = words[8];
     IdState {
         command: false,
         port: 16,
         at: 0,
         tag: 0,
         shift: 0,
-        address: address,
+        address: words[8],
         active: false,
         due: false,
-        words: words,
+        words,
     }
 }
 
 // Whether the state is one that a card can be in.
+#[tactic(auto, unfolding(port_rules::specs::Sound::id_sound))]
 pub fn id_sound(s: IdState) -> bool
     ensures { contract.IdSound s result }
 {
@@ -43,24 +43,25 @@ pub fn id_sound(s: IdState) -> bool
         & (s.at <= 254)
         & (s.tag <= 7)
         & (!s.command | ((s.port <= 15) & (s.at == 0)))
-        & (!(s.port == 16) | (s.at == 0))
+        & ((s.port != 16) | (s.at == 0))
 }
 
 // A byte written to port 1x0h, where `port` is x.
+#[tactic(auto, unfolding(port_rules::specs::Card::id_write))]
 pub fn id_write(s: IdState, port: u8, byte: u8) -> IdState
     ensures { contract.IdWrite s port byte result }
 {
-    let own = s.port;
-    if s.command {
-        if port == own {
-            return command::obey(s, byte);
-        }
-        return s;
+    if !s.command {
+        return wait::listen(s, port, byte);
     }
-    wait::listen(s, port, byte)
+    if port == s.port {
+        return command::obey(s, byte);
+    }
+    s
 }
 
 // The bit that the card drives when the port is read; a card that drives none leaves the bus its 1.
+#[tactic(auto, unfolding(port_rules::specs::Card::id_bit))]
 pub fn id_bit(s: IdState, port: u8) -> u8
     ensures { contract.IdBit s port result }
 {
@@ -71,18 +72,21 @@ pub fn id_bit(s: IdState, port: u8) -> u8
 }
 
 // The card after a read of the port that gave `bus`.
-pub fn id_after_read(mut s: IdState, port: u8, bus: u8) -> IdState
+#[tactic(auto, unfolding(port_rules::specs::Card::id_after_read))]
+pub fn id_after_read(s: IdState, port: u8, bus: u8) -> IdState
     ensures { contract.IdAfterRead s port bus result }
 {
-    if contend::drives(s, port) {
-        let mine = id_bit(s, port);
-        s.shift = s.shift << 1;
-        if bus == mine {
-            return s;
-        }
-        return command::waiting(s);
+    if !contend::drives(s, port) {
+        return s;
     }
-    s
+    let next = IdState {
+        shift: s.shift << 1,
+        ..s
+    };
+    if bus == id_bit(s, port) {
+        return next;
+    }
+    command::waiting(next)
 }
 
 // The table starts at FFh and ends at 98h, and a zero never occurs in it.

@@ -6,39 +6,33 @@ use crate::sequence;
 use port_rules::IdState;
 
 // Whether `byte` is the one that stands at place `at` of the sequence.
+#[tactic(auto, unfolding(port_rules::specs::Card::expected))]
 fn is_expected(at: u8, byte: u8) -> bool
     ensures { result ≡ expected at byte }
 {
-    if at < 255 {
-        let next = sequence::byte_at(at as usize);
-        return byte == next;
-    }
-    false
+    (at < 255) && (byte == sequence::byte_at(usize::from(at)))
 }
 
 // A byte written in ID_WAIT: a zero chooses the port; at that port the card follows the sequence, and its last byte leads to ID_CMD.
-pub fn listen(mut s: IdState, port: u8, byte: u8) -> IdState
+#[tactic(auto, unfolding(port_rules::specs::Card::id_wait))]
+pub fn listen(s: IdState, port: u8, byte: u8) -> IdState
     ensures { result ≡ id_wait s port byte }
 {
     if byte == 0 {
-        s.port = port;
-        s.at = 0;
+        return IdState { port, at: 0, ..s };
+    }
+    if port != s.port {
         return s;
     }
-    let own = s.port;
-    if port != own {
-        return s;
+    if !is_expected(s.at, byte) {
+        return IdState { at: 0, ..s };
     }
-    let at = s.at;
-    if is_expected(at, byte) {
-        if at == 254 {
-            s.command = true;
-            s.at = 0;
-            return s;
-        }
-        s.at = at + 1;
-        return s;
+    if s.at == 254 {
+        return IdState {
+            command: true,
+            at: 0,
+            ..s
+        };
     }
-    s.at = 0;
-    s
+    IdState { at: s.at + 1, ..s }
 }

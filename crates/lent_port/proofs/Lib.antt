@@ -1,9 +1,8 @@
 --
 pub mod Alikes
 pub mod Aside
+pub mod Calls
 pub mod CardByCard
-pub mod Looked
 pub mod Loops
 pub mod Ones
-pub mod Rolled
 pub mod Slices

@@ -3,24 +3,28 @@
 use Prim.Native.Nat.{ℕ, zero, suc, min, ◌+◌, ◌-◌, ◌*◌, ◌/◌, ◌%◌, ◌<◌, ◌≤◌}
 use mathlib.Core.Path.{◌≡◌, refl, sym, ◌∙◌, ap, subst}
 use mathlib.Core.Bool.{Bool, cond}
-use mathlib.Core.List.{List, [], ◌∷◌, ◌++◌, append-nil}
+use mathlib.Core.List.{List, [], ◌∷◌, ◌++◌, append-nil, map}
 use native.Mathlib.Omega.{arith}
 use native.Mathlib.Nat.{not-suc-le-zero, le_of_suc-le-suc}
 use native.Mathlib.Numerals.{add-one}
-use lib.ListN.{length, take, drop, get_or, set, replicate, take-append-drop}
-use lib.Seq.{drop-cons, take-suc-set, append_snoc, drop-set-lt, drop-drop}
+use lib.ListN.{length, take, drop, get_or, set, replicate, take-append-drop, length-map, length-take}
+use lib.Seq.{drop-cons, take-suc, take-suc-set, append_snoc, drop-set-lt, drop-drop}
 use borrow.Author.Tests.{eq-eqb, ne_eqb, lt-ltb}
 use Rattle.port_rules.specs.declared.IdState.{IdState}
-use Rattle.port_rules.specs.Card.{id_write, id_after_read}
+use Rattle.std.specs.List.{fold}
+use Rattle.port_rules.specs.Card.{id_write, id_bit, id_after_read}
 use Rattle.port_rules.specs.Sequence.{id_byte}
 use Rattle.port_rules.specs.Search.{id_bytes, all_ones}
 use Rattle.port_rules.specs.Calls.{padded}
+use Rattle.port_rules.specs.Gathered.{port_bit}
+use Rattle.port_rules.proofs.Gathering.{bit_narrow}
 use Rattle.found.specs.OneCard.{wrote, heard}
+use Rattle.found.specs.Theorems.{All}
 use Rattle.found.proofs.Rounds.{costs_on}
 use Rattle.lent_port.specs.declared.roll.Progress.{Progress}
-use Rattle.lent_port.specs.Roll.{called_up, hears, least, struck, found, rounds_cost, through}
-use Rattle.lent_port.specs.Steps.{Blank, Finishes}
-use Rattle.lent_port.proofs.Ones.{least-top}
+use Rattle.lent_port.specs.Roll.{called_up, hears, takes_part, Worded, least, struck, found, rounds_cost, through}
+use Rattle.lent_port.specs.Steps.{entered, Blank, Finishes, found_of, Finds}
+use Rattle.lent_port.proofs.Ones.{least-top, real_more, found_real}
 
 -- nothing stands past the end
 drop_all : (xs : List ℕ) (i : ℕ) → length xs ≤ i → drop i xs ≡ []
@@ -59,22 +63,19 @@ pub heard-end : (p i w₀ w : ℕ) (s₀ s : IdState) → 16 ≤ i → HeardAt p
 unfolding heard
 heard-end p i w₀ w s₀ s h c = let n : 16 - i ≡ 0 = omega arith in sym (ap (λ (k : ℕ). heard p k w s) n) ∙ c
 
--- the least of the addresses, from the i-th on
-abbrev pub LeastAt : List ℕ → ℕ → ℕ → Type 0
-LeastAt xs i a = (min a (least (drop i xs)) ≡ least xs) × (a ≤ all_ones)
+-- a fold that keeps the lesser of two numbers comes to what a recursion does that takes the least
+module _ {X : Type 0} (f : X → ℕ) (all : List X → ℕ) (top : ℕ) (none : all [] ≡ top) (more : (x : X) (xs : List X) → all (x ∷ xs) ≡ min (f x) (all xs)) where
+  pub folded : (a : ℕ) (xs : List X) → a ≤ top → fold (λ b x. min b (f x)) a xs ≡ min a (all xs)
+  folded a [] h = rw none (omega arith)
+  folded a (x ∷ xs) h = let m : min a (f x) ≤ top = omega arith in folded (min a (f x)) xs m ∙ rw (more x xs) (omega arith)
 
-pub least_start : (xs : List ℕ) → LeastAt xs 0 all_ones
-least_start xs = (let t : least xs ≤ all_ones = least-top xs in omega arith, omega arith)
-
-pub least_turn : (xs : List ℕ) (i a b d : ℕ) → i < length xs → b ≡ min a (get_or xs i d) → LeastAt xs i a → LeastAt xs (i + 1) b
+pub least-folded : (xs : List ℕ) → fold (λ b x. min b x) all_ones xs ≡ least xs
 unfolding least
-least_turn xs i a b d h e (c, t) =
-    let q : least (drop i xs) ≡ min (get_or xs i d) (least (drop (i + 1) xs)) = ap least (drop-cons xs i d h ∙ ap (λ (k : ℕ). get_or xs i d ∷ drop k xs) (sym (add-one i))) in
-    (omega arith, omega arith)
+least-folded xs = let t : least xs ≤ all_ones = least-top xs in folded (λ x. x) least all_ones refl (λ x xs. refl) all_ones xs (omega arith) ∙ omega arith
 
-pub least-end : (xs : List ℕ) (i a : ℕ) → length xs ≤ i → LeastAt xs i a → a ≡ least xs
-unfolding least
-least-end xs i a h (c, t) = let q : least (drop i xs) ≡ all_ones = ap least (drop_all xs i h) in omega arith
+pub carried-folded : (p : ℕ) (xs : List IdState) → fold (λ b s. min b (id_bit s p)) 1 xs ≡ port_bit p xs
+unfolding port_bit
+carried-folded p xs = let t : port_bit p xs ≤ 1 = bit_narrow p xs in folded (λ s. id_bit s p) (port_bit p) 1 refl (λ x xs. refl) 1 xs (omega arith) ∙ omega arith
 
 -- one card through the rounds, from the i-th on
 abbrev pub ThroughAt : ℕ → ℕ → List ℕ → IdState → IdState → Type 0
@@ -151,3 +152,46 @@ finish_more (suc k) a f r xs n l e s h g =
 -- the seven places of what is found
 pub filled : (xs : List ℕ) (r : Progress) → r.count ≡ length xs → take r.count r.addresses ≡ xs → Blank r → r.addresses ≡ padded xs
 filled xs r n l z = sym (take-append-drop r.count r.addresses) ∙ (λ i. l i ++ z i) ∙ ap (λ (m : ℕ). xs ++ replicate (7 - m) 0) n
+
+-- a card more on the roll
+set_next : (xs : List ℕ) (n a : ℕ) → set (xs ++ replicate (suc n) all_ones) (length xs) a ≡ (xs ++ (a ∷ [])) ++ replicate n all_ones
+set_next [] n a = refl
+set_next (x ∷ xs) n a = ap (λ (l : List ℕ). x ∷ l) (set_next xs n a)
+
+map_snoc : (f : IdState → ℕ) (xs : List IdState) (s : IdState) → map f (xs ++ (s ∷ [])) ≡ map f xs ++ (f s ∷ [])
+map_snoc f [] s = refl
+map_snoc f (x ∷ xs) s = ap (λ (l : List ℕ). f x ∷ l) (map_snoc f xs s)
+
+all_snoc : (xs : List IdState) (s : IdState) → All Worded xs → Worded s → All Worded (xs ++ (s ∷ []))
+all_snoc [] s a w = (w, tt)
+all_snoc (x ∷ xs) s (v, a) w = (v, all_snoc xs s a w)
+
+module _ (ys : List IdState) (i : ℕ) (d : IdState) (h : i < length ys) where
+  one_more : take i ys ++ (get_or ys i d ∷ []) ≡ take (i + 1) ys
+  one_more = sym (take-suc ys i d h) ∙ ap (λ (j : ℕ). take j ys) (sym (add-one i))
+
+  pub entered_turn : (x a : ℕ) (xs : List ℕ) → length ys ≤ 8 → a ≡ takes_part x (get_or ys i d) → xs ≡ map (takes_part x) (take i ys) ++ replicate (8 - i) all_ones →
+      set xs i a ≡ map (takes_part x) (take (i + 1) ys) ++ replicate (8 - (i + 1)) all_ones
+  entered_turn x a xs few e q =
+      let n : 8 - i ≡ suc (8 - (i + 1)) = omega arith in
+      let l : i ≡ length (map (takes_part x) (take i ys)) = sym (length-map (take i ys) (takes_part x) ∙ length-take i ys ∙ omega arith) in
+      (λ z. set ((q ∙ ap (λ (m : ℕ). map (takes_part x) (take i ys) ++ replicate m all_ones) n) z) (l z) (e z))
+      ∙ set_next (map (takes_part x) (take i ys)) (8 - (i + 1)) (takes_part x (get_or ys i d))
+      ∙ ap (λ (r : List ℕ). r ++ replicate (8 - (i + 1)) all_ones) (sym (map_snoc (takes_part x) (take i ys) (get_or ys i d)) ∙ ap (map (takes_part x)) one_more)
+
+  pub worded_turn : Worded (get_or ys i d) → All Worded (take i ys) → All Worded (take (i + 1) ys)
+  worded_turn w a = subst (All Worded) one_more (all_snoc (take i ys) (get_or ys i d) a w)
+
+-- the roll's other places do not matter
+pub finds-so : (x : ℕ) (ys : List IdState) (f r : Progress) → f.left ≡ entered x ys → f.count ≡ 0 → f.accesses ≡ 258 → All Worded ys → Finishes 7 f r → Finds x ys r
+finds-so x ys f r l n a w g =
+    let same : found 7 f.left ≡ found_of x ys = ap (found 7) l ∙ found_real 7 (entered x ys) (map (takes_part x) ys) (real_more (8 - length ys) (map (takes_part x) ys)) in
+    let many : r.count ≡ length (found_of x ys) = g.many ∙ omega (arith, ap length same) in
+    let listed : take r.count r.addresses ≡ found_of x ys = g.listed ∙ ap (λ (k : ℕ). take k f.addresses ++ found 7 f.left) n ∙ same in
+    record {
+      many = many;
+      listed = listed;
+      places = filled (found_of x ys) r many listed g.blank;
+      cost = g.cost ∙ (λ i. a i + rounds_cost (length (same i)) 7);
+      worded = w;
+    }

@@ -1,14 +1,13 @@
 -- The slice as a bus: what the definitions of the calls by value come to there.
 -- Assumes nothing.
-use Prim.Native.Nat.{ℕ, ◌/◌, ◌%◌, ◌<◌, ◌≤◌, min}
+use Prim.Native.Nat.{ℕ, ◌/◌, ◌%◌, ◌≤◌}
 use mathlib.Core.Path.{◌≡◌, refl, sym, ap, ◌∙◌}
 use mathlib.Core.Bool.{Bool, true, false, ◌&&◌}
 use mathlib.Core.List.{List, [], ◌∷◌, ◌++◌, append-nil}
-use native.Mathlib.Omega.{arith}
 use lib.Dec.{leb, eqb}
 use lib.ListN.{length, length-map}
 use lib.Seq.{take-length, drop-length}
-use borrow.Author.Tests.{leb-true, leb-false, le-leb, lt-leb}
+use borrow.Author.Tests.{leb-true}
 use Rattle.bits.proofs.Tests.{both}
 use Rattle.port_rules.specs.declared.IdState.{IdState}
 use Rattle.port_rules.specs.declared.Bus.{Bus}
@@ -16,7 +15,6 @@ use Rattle.port_rules.specs.Port.{held, rest, seated, Access, write, read, Talk,
 use Rattle.port_rules.specs.Search.{search, activate}
 use Rattle.port_rules.specs.Calls.{told, Outcome, padded, all_sound, allowed, refusing, judged, ended}
 use Rattle.port_rules.specs.Lent.{lent}
-use Rattle.lent_port.specs.Steps.{port_fits}
 
 -- all the slice's cards are there
 pub held-lent : (xs : List IdState) → held (lent xs) ≡ xs
@@ -27,15 +25,6 @@ pub seated-lent : (xs zs : List IdState) → length zs ≡ length xs → lent zs
 seated-lent xs zs l =
     let e : zs ≡ zs ++ rest (lent xs) = sym (append-nil zs) ∙ ap (λ (t : List IdState). zs ++ t) (sym (drop-length xs)) in
     λ i. record { cards = e i; count = l i }
-
--- a count up to nine tells whether there are more than eight
-few-same : (n : ℕ) (b : Bool) → leb n 8 ≡ b → leb (min n 9) 8 ≡ leb n 8
-few-same n true e = let h : n ≤ 8 = leb-true n 8 e in let m : min n 9 ≤ 8 = omega arith in le-leb (min n 9) 8 m ∙ sym e
-few-same n false e = let h : 8 < n = leb-false n 8 e in let m : 8 < min n 9 = omega arith in lt-leb (min n 9) 8 m ∙ sym e
-
-pub fits-lent : (port n count : ℕ) (xs : List IdState) → count ≡ min n 9 → n ≡ length xs → port_fits port count ≡ allowed (lent xs) port
-unfolding allowed
-fits-lent port n count xs c l = ap (port_fits port) c ∙ ap (λ (b : Bool). eqb (port % 16) 0 && eqb (port / 256) 1 && b) (few-same n (leb n 8) refl) ∙ ap (port_fits port) l
 
 -- Every access keeps the number of cards, and so does every talk.
 pub write-length : (p x : ℕ) (xs : List IdState) → length (port_write p x xs) ≡ length xs

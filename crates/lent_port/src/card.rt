@@ -1,5 +1,5 @@
 // One card by itself, access by access: it sees each byte that is written and hears each bit that the bus carries. A port is its x in 1x0h.
-ghost use Rattle.std.specs.Prelude.{◌≡◌, ◌%◌, ◌+◌, ◌<◌};
+ghost use Rattle.std.specs.Prelude.{◌≡◌, ◌+◌, ◌<◌};
 ghost use Rattle.port_rules.specs.Card.{id_write};
 ghost use Rattle.found.specs.OneCard.{heard};
 ghost use Rattle.lent_port.specs.Roll.{called_up, hears};
@@ -13,11 +13,8 @@ pub fn call_up(card: IdState, x: u8) -> IdState
 {
     let once = id_write(card, x, 0);
     let mut s = id_write(once, x, 0);
-    let mut i: usize = 0;
-    while i < 255 {
-        let byte = byte_at(i);
-        s = id_write(s, x, byte);
-        i += 1;
+    for i in 0..255 {
+        s = id_write(s, x, byte_at(i));
     }
     s
 }
@@ -28,35 +25,23 @@ fn hear_word(card: IdState, x: u8, word: u16) -> IdState
 {
     let mut s = card;
     let mut w = word;
-    let mut i: usize = 0;
-    while i < 16 {
-        let bit = (w >> 15) as u8;
-        s = id_after_read(s, x, bit);
+    for _i in 0..16usize {
+        s = id_after_read(s, x, (w >> 15) as u8);
         w = w << 1;
-        i += 1;
     }
     s
-}
-
-fn low_word(a: u64) -> u16
-    ensures { result ≡ a % 65536 }
-{
-    (a % 65536) as u16
 }
 
 // For words 00h, 01h, 02h a read command and 16 reads, in which the bus carries an address.
 pub fn hear(card: IdState, x: u8, address: u64) -> IdState
     ensures { result ≡ hears x address card }
 {
-    let w0 = low_word(address / 65536 / 65536);
-    let w1 = low_word(address / 65536);
-    let w2 = low_word(address);
     let asked0 = id_write(card, x, 0x80);
-    let told0 = hear_word(asked0, x, w0);
+    let told0 = hear_word(asked0, x, (address / 65536 / 65536 % 65536) as u16);
     let asked1 = id_write(told0, x, 0x81);
-    let told1 = hear_word(asked1, x, w1);
+    let told1 = hear_word(asked1, x, (address / 65536 % 65536) as u16);
     let asked2 = id_write(told1, x, 0x82);
-    hear_word(asked2, x, w2)
+    hear_word(asked2, x, (address % 65536) as u16)
 }
 
 // A round that reads an address and sets a tag.

@@ -4,7 +4,9 @@
 ghost use Rattle.port_rules.specs.Lent.{TheSameAsByValue};
 ghost use Rattle.port_rules.specs.PortContracts as contract;
 
-use port_rules::{IdState, Listed};
+use crate::look::{activated, carried, each, tested};
+use idport::{digit, id_after_read, id_write, names};
+use port_rules::{Cards, IdState, Listed};
 use refusal::Refusal;
 
 mod card; // card.rt: one card by itself, access by access
@@ -15,76 +17,58 @@ mod roll; // roll.rt: the search
 pub fn write(cards: &mut [IdState], port: u16, byte: u8) -> Result<(), Refusal>
     ensures { contract.LentWrite cards.old port byte result cards.new }
 {
-    let mut seen = look::begin(port);
-    let mut i = 0;
-    while i < cards.len() {
-        seen = look::at(seen, cards[i]);
-        i += 1;
-    }
-    let step = look::writing(seen, byte);
-    let mut j = 0;
-    while j < cards.len() {
-        cards[j] = look::written(step, cards[j]);
-        j += 1;
-    }
-    look::write_answer(step)
+    tested(cards, port)?;
+    let x = digit(port);
+    each(cards, |card| id_write(card, x, byte));
+    Ok(())
 }
 
 // A bit read from the port, and the cards as the contention leaves them.
 pub fn read(cards: &mut [IdState], port: u16) -> Result<u8, Refusal>
     ensures { contract.LentRead cards.old port result cards.new }
 {
-    let mut seen = look::begin(port);
-    let mut i = 0;
-    while i < cards.len() {
-        seen = look::at(seen, cards[i]);
-        i += 1;
-    }
-    let step = look::reading(seen);
-    let mut j = 0;
-    while j < cards.len() {
-        cards[j] = look::heard(step, cards[j]);
-        j += 1;
-    }
-    look::read_answer(step)
+    tested(cards, port)?;
+    let x = digit(port);
+    let bit = carried(cards, x);
+    each(cards, |card| id_after_read(card, x, bit));
+    Ok(bit)
 }
 
 // The search: the cards found are tagged from 1 on.
 pub fn find(cards: &mut [IdState], port: u16) -> Listed
     ensures { contract.LentFind cards.old port result cards.new }
 {
-    let mut seen = roll::begin(port);
-    let mut i = 0;
-    while i < cards.len() {
-        seen = roll::at(seen, cards[i]);
-        i += 1;
+    if let Err(why) = tested(cards, port) {
+        return Listed {
+            answer: Err(why),
+            addresses: [0; 7],
+        };
     }
-    let finding = roll::search(seen);
-    let mut j = 0;
-    while j < cards.len() {
-        cards[j] = roll::searched(finding, cards[j]);
-        j += 1;
+    let x = digit(port);
+    let found = roll::search(cards, x);
+    let addresses = found.addresses;
+    let count = found.count;
+    each(cards, |card| roll::searched(card, x, &addresses[..count]));
+    Listed {
+        answer: Ok(Cards {
+            count,
+            accesses: found.accesses,
+        }),
+        addresses,
     }
-    roll::found_answer(finding)
 }
 
 // Activation of the card with this tag, 1 to 7, at this base number; 31 means preconfigured.
 pub fn activate(cards: &mut [IdState], port: u16, tag: u8, base: u8) -> Result<usize, Refusal>
     ensures { contract.LentActivate cards.old port tag base result cards.new }
 {
-    let mut seen = look::begin(port);
-    let mut i = 0;
-    while i < cards.len() {
-        seen = look::at(seen, cards[i]);
-        i += 1;
+    tested(cards, port)?;
+    if !names(tag, base) {
+        return Err(Refusal::ArgumentOutside);
     }
-    let order = look::activating(seen, tag, base);
-    let mut j = 0;
-    while j < cards.len() {
-        cards[j] = look::activated(order, cards[j]);
-        j += 1;
-    }
-    look::activate_answer(order)
+    let x = digit(port);
+    each(cards, |card| activated(card, x, tag, base));
+    Ok(259)
 }
 
 // A slice of at most eight cards and a bus by value that holds the same cards come to the same.

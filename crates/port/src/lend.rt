@@ -1,91 +1,40 @@
-// Each call over a bus with a place for each of its cards: the cards that are there are lent as a slice, and what the call over the slice leaves and answers is joined to the places past them.
-ghost use Rattle.std.specs.Prelude.{◌≡◌, ◌≤◌};
-ghost use Rattle.port_rules.specs.PortContracts as contract;
+// A call over the cards of a bus that are there: they are lent as a slice, and what the call leaves is joined to the places past them.
+ghost use Rattle.std.specs.Prelude.{◌≡◌, cond};
+ghost use Rattle.std.specs.Fn.{FnOnceReturnsAtMut};
+ghost use Rattle.refusal.specs.Number.{number_of};
+ghost use Rattle.port_rules.specs.Port.{held};
+ghost use Rattle.port_rules.specs.Calls.{all_sound};
+ghost use Rattle.port.specs.Lent.{Called};
 
-use port_rules::{After, AfterSearch, Bus, Listed};
+use port_rules::{Bus, IdState};
 use refusal::Refusal;
 
-fn after<T>(bus: Bus, answer: Result<T, Refusal>) -> After<T>
-    ensures { result ≡ record { bus = bus; answer = answer } }
+// Why a bus that counts more cards than its eight places is refused: one of the eight is unsound, else the count is outside.
+fn too_many(b: Bus) -> Refusal
+    ensures { number_of result ≡ cond (all_sound (held b)) 12 1 }
 {
-    After {
-        bus: bus,
-        answer: answer,
+    let cards = b.cards;
+    if idport::all_sound(&cards[..b.count.min(8)]) {
+        return Refusal::ArgumentOutside;
     }
+    Refusal::StateUnsound
 }
 
-pub fn write(b: Bus, port: u16, byte: u8) -> After<()>
-    requires { b.count ≤ 8 }
-    ensures { contract.PortWrite b port byte result }
+// The bus as the call leaves it, and its answer; a bus that counts more cards than its eight places is refused.
+pub fn call<A, F: FnOnce(&mut [IdState]) -> A, R: FnOnce(Refusal) -> A>(
+    b: Bus,
+    call: F,
+    refuse: R,
+) -> (Bus, A)
+    requires calls { F.IsAlwaysCallable call }
+    requires refuses { R.IsAlwaysCallable refuse }
+    ensures { Called (FnOnceReturnsAtMut F.FnOnce call) (R.post refuse) b result.0 result.1 }
 {
     let n = b.count;
-    let mut cards = b.cards;
-    let answer = lent_port::write(&mut cards[..n], port, byte);
-    after(
-        Bus {
-            cards: cards,
-            count: n,
-        },
-        answer,
-    )
-}
-
-pub fn read(b: Bus, port: u16) -> After<u8>
-    requires { b.count ≤ 8 }
-    ensures { contract.PortRead b port result }
-{
-    let n = b.count;
-    let mut cards = b.cards;
-    let answer = lent_port::read(&mut cards[..n], port);
-    after(
-        Bus {
-            cards: cards,
-            count: n,
-        },
-        answer,
-    )
-}
-
-fn after_find(bus: Bus, found: Listed) -> AfterSearch
-    ensures { result ≡ record { bus = bus; answer = found.answer; addresses = found.addresses } }
-{
-    let answer = found.answer;
-    let addresses = found.addresses;
-    AfterSearch {
-        bus: bus,
-        answer: answer,
-        addresses: addresses,
+    if n > 8 {
+        return (b, refuse(too_many(b)));
     }
-}
-
-pub fn find(b: Bus, port: u16) -> AfterSearch
-    requires { b.count ≤ 8 }
-    ensures { contract.FindCards b port result }
-{
-    let n = b.count;
     let mut cards = b.cards;
-    let answer = lent_port::find(&mut cards[..n], port);
-    after_find(
-        Bus {
-            cards: cards,
-            count: n,
-        },
-        answer,
-    )
-}
-
-pub fn activate(b: Bus, port: u16, tag: u8, base: u8) -> After<usize>
-    requires { b.count ≤ 8 }
-    ensures { contract.ActivateCard b port tag base result }
-{
-    let n = b.count;
-    let mut cards = b.cards;
-    let answer = lent_port::activate(&mut cards[..n], port, tag, base);
-    after(
-        Bus {
-            cards: cards,
-            count: n,
-        },
-        answer,
-    )
+    let answer = call(&mut cards[..n]);
+    (Bus { cards, count: n }, answer)
 }

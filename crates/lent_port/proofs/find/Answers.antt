@@ -1,25 +1,15 @@
--- `find` meets its contract: the look at all cards tells what is done, and each card is stepped where it stands.
+-- `find` meets its contract: refused by the tests it changes nothing, else each card goes through the rounds.
 -- Assumes nothing.
-use Rattle.std.proofs.Common.{refl, arith}
-use Rattle.bits.specs.UpTo.{up_to}
-use Rattle.bits.proofs.UpTo.{up_to_turn}
-use Rattle.lent_port.proofs.Rolled.{rolled_none, rolled_next, found-ends}
+use Rattle.std.proofs.Common.{rules}
+use Rattle.lent_port.proofs.Slices.{few}
+use Rattle.lent_port.proofs.Calls.{refuses, passes, found-comes}
 use Rattle.lent_port.proofs.find.Goals as goal
 
-pub loop-i-init : goal.loop-i-init
-loop-i-init c = rolled_none _ _ _ c.begin-seen.ensures
+pub returns-in-Err : goal.returns-in-Err
+returns-in-Err c = refuses _ _ _ (λ a. a) _ _ c.in-Err.ensures
 
-pub loop-i-preserved : goal.loop-i-preserved
-loop-i-preserved c = rolled_next _ _ _ _ _ _ c.loop-i-test.true c.loop-i.invariant c.at-seen.ensures
-
-pub loop-j-init : goal.loop-j-init
-unfolding up_to
-loop-j-init c = refl
-
-pub loop-j-preserved : goal.loop-j-preserved
-loop-j-preserved c = up_to_turn _ _ _ _ _ _ c.loop-j.invariant c.searched.ensures
+pub search-found-requires : goal.search-found-requires
+search-found-requires c = few _ _ (passes _ _ _ _ c.in_default.is c.tested.ensures).1
 
 pub returns : goal.returns
-returns c =
-    rw c.loop-j.invariant
-    (found-ends _ _ _ _ _ _ _ c.loop-i.invariant c.loop-i-test.false c.search-finding.ensures (omega arith) c.found_answer.ensures)
+returns c = found-comes _ _ _ _ c.digit-x.ensures _ _ c.in_default.is c.tested.ensures c.search-found.result c.search-found.ensures (c.each.ensures _ (λ s r p. search rules))

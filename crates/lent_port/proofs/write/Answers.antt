@@ -1,25 +1,14 @@
--- `write` meets its contract: the look at all cards tells what is done, and each card is stepped where it stands.
+-- `write` meets its contract: refused by the tests it changes nothing, else each card is stepped.
 -- Assumes nothing.
-use Rattle.std.proofs.Common.{refl, arith}
-use Rattle.bits.specs.UpTo.{up_to}
-use Rattle.bits.proofs.UpTo.{up_to_turn}
-use Rattle.lent_port.proofs.Looked.{looked-none, looked-next, wrote-ends}
+use Rattle.std.proofs.Common.{◌≡◌, ◌∙◌, ap, Err, rules}
+use Rattle.port_rules.specs.Lent.{wrote_over}
+use Rattle.lent_port.proofs.Calls.{refuses, wrote-comes}
 use Rattle.lent_port.proofs.write.Goals as goal
 
-pub loop-i-init : goal.loop-i-init
-loop-i-init c = looked-none _ _ _ c.begin-seen.ensures
-
-pub loop-i-preserved : goal.loop-i-preserved
-loop-i-preserved c = looked-next _ _ _ _ _ _ c.loop-i-test.true c.loop-i.invariant c.at-seen.ensures
-
-pub loop-j-init : goal.loop-j-init
-unfolding up_to
-loop-j-init c = refl
-
-pub loop-j-preserved : goal.loop-j-preserved
-loop-j-preserved c = up_to_turn _ _ _ _ _ _ c.loop-j.invariant c.written.ensures
+pub returns-in_err-tested : goal.returns-in_err-tested
+returns-in_err-tested c =
+    let e : c.from_residual.result ≡ Err c.in_err-tested.field-0.0 = search rules in
+    ap (λ (r : _). wrote_over r c.args.cards.now) e ∙ refuses _ _ _ (λ a. a) _ _ c.in_err-tested.ensures
 
 pub returns : goal.returns
-returns c =
-    rw c.loop-j.invariant
-    (wrote-ends _ _ _ _ _ _ _ _ c.loop-i.invariant c.loop-i-test.false c.writing-step.ensures (omega arith) c.write_answer.ensures)
+returns c = wrote-comes _ _ _ _ c.digit-x.ensures _ _ c.in_ok-tested.was c.tested.ensures _ (c.each.ensures _ (λ s r p. search rules))

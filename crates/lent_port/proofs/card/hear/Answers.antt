@@ -5,5 +5,4 @@ use Rattle.lent_port.proofs.card.hear.Goals as goal
 
 pub returns : goal.returns
 unfolding hears
-returns c =
-    rw (c.hear_word.ensures, c.id_write-asked2.ensures, c.hear_word-told1.ensures, c.id_write-asked1.ensures, c.hear_word-told0.ensures, c.id_write-asked0.ensures, c.low_word-w2.ensures, c.low_word-w1.ensures, c.low_word-w0.ensures)
+returns c = rw (c.hear_word.ensures, c.id_write-asked2.ensures, c.hear_word-told1.ensures, c.id_write-asked1.ensures, c.hear_word-told0.ensures, c.id_write-asked0.ensures)

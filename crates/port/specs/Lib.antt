@@ -1,0 +1,2 @@
+-- What a call by value makes of a call over a slice.
+pub mod Lent

@@ -8,14 +8,15 @@ use native.Mathlib.Omega.{arith}
 use borrow.Author.Tests.{lt-ltb, le-ltb, lt-leb, le-leb}
 use lib.ListN.{length, drop}
 use lib.Dec.{ltb, leb}
+use Rattle.std.specs.Prelude.{Option, Result, Some, None, Ok, Err}
+use Rattle.std.specs.Option.{ok_or}
 use Rattle.refusal.specs.declared.Refusal.{Refusal}
 use Rattle.refusal.specs.declared.Refusal.TheVariants.{ArgumentOutside, NoSuchCard, NoPlace, ListedTwice}
 use Rattle.catalogue_rules.specs.Field.{Field, fields_of}
-use Rattle.catalogue_rules.specs.declared.Judged.TheVariants.{Sound, Refused}
-use Rattle.catalogue_rules.specs.Reading.{Reading, catalogue, refused, parsed, addresses_of, is_among, any_twice, file_of, read, judged}
+use Rattle.catalogue_rules.specs.declared.Counts.{Counts}
+use Rattle.catalogue_rules.specs.Reading.{Reading, catalogue, refused, parsed, addresses_of, is_among, any_twice, file_of, read, judged, counts}
 use Rattle.catalogue_rules.specs.Cards.{versions_from}
 use Rattle.catalogue_rules.specs.RoundTrip.{Bytes}
-use Rattle.catalogue_rules.specs.declared.Seek.TheVariants as seek
 use Rattle.catalogue_rules.proofs.Checked.{is_read}
 use Rattle.catalogue_rules.proofs.Accepted.{addresses_parsed}
 use Rattle.catalogue_rules.specs.Edit.{Change, bytes, no, or_else, on_catalogue, without_version, dropped_from, dropped}
@@ -76,16 +77,34 @@ module _ (file : List ℕ) (at n : ℕ) {number image : ℕ} (p : number ≡ num
 
 -- ---- the whole call
 
+-- What `ok_or` makes of a place: that place, or the refusal.
+module _ (why : Refusal) {o : Option ℕ} {r : Result ℕ Refusal} (is : r ≡ ok_or o why) where
+  some_if : (o' : Option ℕ) → o ≡ o' → {at : ℕ} → r ≡ Ok at → Some at ≡ o'
+  some_if None q e = let z : Err why ≡ Ok _ = sym (is ∙ ap (λ (x : Option ℕ). ok_or x why) q) ∙ e in cc
+  some_if (Some n) q e = let same : Ok n ≡ Ok _ = sym (is ∙ ap (λ (x : Option ℕ). ok_or x why) q) ∙ e in cc
+
+  pub placed_at : {at : ℕ} → r ≡ Ok at → Some at ≡ o
+  placed_at e = some_if o refl e
+
+  none_if : (o' : Option ℕ) → o ≡ o' → {other : Refusal} → r ≡ Err other → (None ≡ o') × (other ≡ why)
+  none_if None q e = let same : Err why ≡ Err _ = sym (is ∙ ap (λ (x : Option ℕ). ok_or x why) q) ∙ e in (refl, cc)
+  none_if (Some n) q e = let z : Ok n ≡ Err _ = sym (is ∙ ap (λ (x : Option ℕ). ok_or x why) q) ∙ e in (cc, cc)
+
+  pub not_placed : {other : Refusal} → r ≡ Err other → (None ≡ o) × (other ≡ why)
+  not_placed e = none_if o refl e
+
 -- A file whose fields were taken in turn has so many cards and fields.
-record Taken (r : Reading) (c n : ℕ) : Type 0 where
+record Taken (r : Reading) (told : Counts) : Type 0 where
   fs : List Field
   are : r ≡ catalogue fs
-  cards : c ≡ length (addresses_of fs)
-  many : n ≡ length fs
+  cards : told.cards ≡ length (addresses_of fs)
+  many : told.fields ≡ length fs
 
-taken : (r : Reading) (c n : ℕ) → Sound c n ≡ judged r → Taken r c n
-taken (catalogue fs) c n e = record { fs = fs; are = refl; cards = cc; many = cc }
-taken (refused why) c n e = let z : ◌≡◌ {A = ℕ} 0 1 = cc in absurd (omega arith)
+taken : (r : Reading) (told : Counts) → Ok told ≡ judged r → Taken r told
+taken (catalogue fs) told e =
+    let same : told ≡ counts (length (addresses_of fs)) (length fs) = cc in
+    record { fs = fs; are = refl; cards = ap (λ (c : Counts). c.cards) same; many = ap (λ (c : Counts). c.fields) same }
+taken (refused why) told e = let z : ◌≡◌ {A = ℕ} 0 1 = cc in absurd (omega arith)
 
 -- The tests in their order, and the new file behind them.
 abbrev tests : Bool → Bool → Bool → List ℕ → Change
@@ -101,17 +120,17 @@ module _ (area : ℕ) (file : List ℕ) (a : ℕ) where
     unfolding dropped
     judged_so = ap (λ (b : Bool). or_else b ArgumentOutside (on_catalogue (parsed file) (dropped_from a))) (le-ltb area (length file) fits)
 
-    pub no_file : {why : Refusal} → Refused why ≡ judged (parsed file) → dropped area file a ≡ no why
+    pub no_file : {why : Refusal} → Err why ≡ judged (parsed file) → dropped area file a ≡ no why
     no_file {why} e = judged_so ∙ unread (dropped_from a) (parsed file) why e
 
-    module _ {c n : ℕ} (e : Sound c n ≡ judged (parsed file)) where
-      was : Taken (parsed file) c n
-      was = taken (parsed file) c n e
+    module _ {told : Counts} (e : Ok told ≡ judged (parsed file)) where
+      was : Taken (parsed file) told
+      was = taken (parsed file) told e
 
       same-cards : addresses_of (fields_of file) ≡ addresses_of was.fs
       same-cards = addresses_parsed file was.fs was.are
 
-      tested : (there room twice : Bool) → is_among a (addresses_of (fields_of file)) ≡ there → leb c 64 ≡ room → any_twice (addresses_of (fields_of file)) ≡ twice
+      tested : (there room twice : Bool) → is_among a (addresses_of (fields_of file)) ≡ there → leb told.cards 64 ≡ room → any_twice (addresses_of (fields_of file)) ≡ twice
           → dropped area file a ≡ tests there room twice (file_of (without_version a was.fs))
       unfolding dropped_from
       tested there room twice m r t =
@@ -121,19 +140,19 @@ module _ (area : ℕ) (file : List ℕ) (a : ℕ) where
           (ap (is_among a) (sym same-cards) ∙ m) (ap (λ (k : ℕ). leb k 64) (sym was.cards) ∙ r)
           ∙ ap (λ (x : Bool). tests there room x (file_of (without_version a was.fs))) (ap any_twice (sym same-cards) ∙ t)
 
-      pub no-card : seek.Missing ≡ seek_if (is_among a (addresses_of (fields_of file))) (card_place a (fields_of file)) → dropped area file a ≡ no NoSuchCard
+      pub no-card : None ≡ seek_if (is_among a (addresses_of (fields_of file))) (card_place a (fields_of file)) → dropped area file a ≡ no NoSuchCard
       no-card s = tested false _ _ (missing_if (is_among a (addresses_of (fields_of file))) (card_place a (fields_of file)) s) refl refl
 
-      module _ {at : ℕ} (s : seek.Behind at ≡ seek_if (is_among a (addresses_of (fields_of file))) (card_place a (fields_of file))) where
+      module _ {at : ℕ} (s : Some at ≡ seek_if (is_among a (addresses_of (fields_of file))) (card_place a (fields_of file))) where
         there : (is_among a (addresses_of (fields_of file)) ≡ true) × (at ≡ card_place a (fields_of file))
         there = behind-if (is_among a (addresses_of (fields_of file))) (card_place a (fields_of file)) at s
 
-        pub too_many : 64 < c → dropped area file a ≡ no NoPlace
-        too_many h = tested true false _ there.0 (lt-leb c 64 h) refl
+        pub too_many : 64 < told.cards → dropped area file a ≡ no NoPlace
+        too_many h = tested true false _ there.0 (lt-leb told.cards 64 h) refl
 
-        module _ (room : c ≤ 64) {twice : Bool} (t : twice ≡ any_twice (addresses_of (fields_of file))) where
+        module _ (room : told.cards ≤ 64) {twice : Bool} (t : twice ≡ any_twice (addresses_of (fields_of file))) where
           pub is_twice : twice ≡ true → dropped area file a ≡ no ListedTwice
-          is_twice y = tested true true true there.0 (le-leb c 64 room) (sym t ∙ y)
+          is_twice y = tested true true true there.0 (le-leb told.cards 64 room) (sym t ∙ y)
 
           -- Behind the tests the file is a sound one.
           module _ (y : twice ≡ false) (b : Bytes file) where
@@ -144,14 +163,14 @@ module _ (area : ℕ) (file : List ℕ) (a : ℕ) where
             among : is_among a (addresses_of was.fs) ≡ true
             among = ap (is_among a) (sym same-cards) ∙ there.0
 
-            pub behind_it : Behind file at n
+            pub behind_it : Behind file at told.fields
             behind_it =
-                subst (λ (k : ℕ). Behind file k n) (sym there.1)
+                subst (λ (k : ℕ). Behind file k told.fields) (sym there.1)
                 (subst (λ (k : ℕ). Behind file (card_place a (fields_of file)) k) (sym was.many) (is_behind a file was.fs b was_sound among))
 
-            pub new_so : dropped area file a ≡ bytes (new_file file at n)
+            pub new_so : dropped area file a ≡ bytes (new_file file at told.fields)
             new_so =
-                tested true true false there.0 (le-leb c 64 room) (sym t ∙ y)
+                tested true true false there.0 (le-leb told.cards 64 room) (sym t ∙ y)
                 ∙ ap bytes
                 (sym (is_new a file was.fs b was_sound among)
                 ∙ ap₂ (λ (x y : ℕ). new_file file x y) (sym there.1) (sym was.many))

@@ -1,35 +1,27 @@
 #![tactic(auto)]
 // Dropping the oldest version of a card: the new file is written whole into another lent area, and the old one stays as it is.
-ghost use Rattle.std.specs.Prelude.{◌≡◌, ◌+◌, ◌-◌, ◌≤◌, length};
-ghost use Rattle.catalogue_rules.specs.Put.{put_at};
+ghost use Rattle.std.specs.Prelude.{◌≡◌, ◌≤◌, length};
 ghost use Rattle.catalogue_rules.specs.PutContracts.{Drops};
-ghost use Rattle.catalogue_drop.specs.Around.{between, around, begins, new_file, InOrder, Behind};
+ghost use Rattle.catalogue_drop.specs.Around.{around, begins, new_file, InOrder, Behind};
 
-use catalogue_rules::{Judged, Seek, Written};
 use refusal::Refusal;
 
 // Drops a card's oldest version; a card leaves with its last. The unknown fields stay. 12, 15, 16, 17, 18, 19.
-pub fn drop_oldest(file: &[u8], address: u64, out: &mut [u8]) -> Written
+pub fn drop_oldest(file: &[u8], address: u64, out: &mut [u8]) -> Result<usize, Refusal>
     ensures { Drops file.now address result out.old out.new }
 {
     if out.len() < file.len() {
-        return Written::Refused(Refusal::ArgumentOutside);
+        return Err(Refusal::ArgumentOutside);
     }
-    match catalogue_read::parse(file) {
-        Judged::Refused(why) => Written::Refused(why),
-        Judged::Sound { cards, fields } => match catalogue_put::card_place(file, address) {
-            Seek::Missing => Written::Refused(Refusal::NoSuchCard),
-            Seek::Behind(at) => {
-                if 64 < cards {
-                    return Written::Refused(Refusal::NoPlace);
-                }
-                if catalogue_read::twice(file) {
-                    return Written::Refused(Refusal::ListedTwice);
-                }
-                Written::Bytes(drop_behind(file, at, fields, out))
-            }
-        },
+    let counts = catalogue_read::parse(file)?;
+    let at = catalogue_put::card_place(file, address).ok_or(Refusal::NoSuchCard)?;
+    if 64 < counts.cards {
+        return Err(Refusal::NoPlace);
     }
+    if catalogue_read::twice(file) {
+        return Err(Refusal::ListedTwice);
+    }
+    Ok(drop_behind(file, at, counts.fields, out))
 }
 
 // The same for the card whose fields begin at a place, in a file with so many fields before the count.
@@ -60,17 +52,9 @@ fn copy_around(
     ensures { (result ≡ length (around file.now kept at number image left)) × (out.new ≡ begins (around file.now kept at number image left) out.old) }
 {
     let end = file.len() - 5;
-    let one = put_part(file, 0, kept, out, 0);
-    let two = put_part(file, at, number, out, one);
-    let three = put_part(file, number + 5, image, out, two);
-    let four = put_part(file, image + 131, end, out, three);
+    let one = catalogue_put::bytes(out, 0, &file[..kept]);
+    let two = catalogue_put::bytes(out, one, &file[at..number]);
+    let three = catalogue_put::bytes(out, two, &file[number + 5..image]);
+    let four = catalogue_put::bytes(out, three, &file[image + 131..end]);
     catalogue_put::count(out, four, left)
-}
-
-// Puts the bytes from one place of the file up to another, and answers the place behind them.
-fn put_part(file: &[u8], from: usize, to: usize, out: &mut [u8], at: usize) -> usize
-    requires { (from ≤ to) × ((to ≤ length file.now) × (at + (to - from) ≤ length out.old)) }
-    ensures { (result ≡ at + (to - from)) × (out.new ≡ put_at out.old at (between from to file.now)) }
-{
-    catalogue_put::bytes(out, at, &file[from..to])
 }

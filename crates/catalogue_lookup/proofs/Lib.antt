@@ -1,2 +1,2 @@
 -- Laws of the versions behind a card that was found.
-mod Behind
+pub mod Behind

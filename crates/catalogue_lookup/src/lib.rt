@@ -5,80 +5,52 @@
 mod tests;
 pub mod walk;
 
-ghost use Rattle.catalogue_rules.specs.LookupContracts.{Latest, Given, LooksUp, Part, ImageOf};
+ghost use Rattle.catalogue_rules.specs.LookupContracts.{Latest, Given, LooksUp, ImageOf};
 
-use catalogue_rules::{Hit, Judged, Place};
+pub use catalogue_read::part;
+use catalogue_read::{listed, parse};
+use catalogue_rules::{Hit, Span};
+use refusal::Refusal;
 pub use walk::newest;
 
 // The latest version of a card.
-pub fn latest(file: &[u8], address: u64) -> Place
+#[tactic(auto, using(catalogue_rules::proofs::Accepted::refused_latest, catalogue_rules::proofs::Accepted::sound_latest))]
+pub fn latest(file: &[u8], address: u64) -> Result<Span, Refusal>
     ensures { Latest file.now address result }
 {
-    match catalogue_read::parse(file) {
-        Judged::Refused(why) => Place::Refused(why),
-        Judged::Sound { cards, fields: _ } => {
-            tests::found_in(file, cards, walk::newest_at(file, address))
-        }
-    }
+    let counts = parse(file)?;
+    tests::found_in(file, counts.cards, walk::newest_at(file, address))
 }
 
 // A given version of a card.
-pub fn given(file: &[u8], address: u64, number: u16) -> Place
+#[tactic(auto, using(catalogue_rules::proofs::Accepted::refused_given, catalogue_rules::proofs::Accepted::sound_given))]
+pub fn given(file: &[u8], address: u64, number: u16) -> Result<Span, Refusal>
     ensures { Given file.now address number result }
 {
-    match catalogue_read::parse(file) {
-        Judged::Refused(why) => Place::Refused(why),
-        Judged::Sound { cards, fields: _ } => {
-            tests::found_in(file, cards, walk::numbered_at(file, address, number))
-        }
-    }
+    let counts = parse(file)?;
+    tests::found_in(file, counts.cards, walk::numbered_at(file, address, number))
 }
 
 // The latest version of a card, out of the user's override catalogue if it has that card, else out of the main one.
-pub fn lookup(own: &[u8], main: &[u8], address: u64) -> Hit
+#[tactic(auto, using(catalogue_rules::proofs::Accepted::refused_looked, catalogue_rules::proofs::Accepted::override_has, catalogue_rules::proofs::Accepted::main_is_refused, catalogue_rules::proofs::Accepted::main_has))]
+pub fn lookup(own: &[u8], main: &[u8], address: u64) -> Result<Hit, Refusal>
     ensures { LooksUp own.now main.now address result }
 {
-    match catalogue_read::parse(own) {
-        Judged::Refused(why) => Hit::Nowhere(why),
-        Judged::Sound { cards, fields: _ } => {
-            if catalogue_read::listed(own, 0, address) {
-                let found = tests::found_in(own, cards, walk::newest_at(own, address));
-                return tests::in_override(found);
-            }
-            match catalogue_read::parse(main) {
-                Judged::Refused(why) => Hit::Nowhere(why),
-                Judged::Sound {
-                    cards: others,
-                    fields: _,
-                } => {
-                    let found = walk::newest_at(main, address);
-                    tests::in_main(own, cards, main, others, found)
-                }
-            }
-        }
+    let cards = parse(own)?.cards;
+    if listed(own, 0, address) {
+        return tests::found_in(own, cards, walk::newest_at(own, address)).map(Hit::InOverride);
     }
-}
-
-// The bytes from a place on, as a part of the file; as many as there are where it ends first.
-pub fn part(file: &[u8], start: usize, len: usize) -> &[u8]
-    ensures { Part file.now start len result.now }
-{
-    if file.len() <= start {
-        return &file[..0];
-    }
-    if file.len() - start < len {
-        return &file[start..];
-    }
-    &file[start..start + len]
+    let others = parse(main)?.cards;
+    tests::in_main(own, cards, main, others, walk::newest_at(main, address))
 }
 
 // The image that a lookup found, as a part of the catalogue that has it.
-pub fn image_of<'a>(own: &'a [u8], main: &'a [u8], hit: Hit) -> &'a [u8]
+pub fn image_of<'a>(own: &'a [u8], main: &'a [u8], hit: Result<Hit, Refusal>) -> &'a [u8]
     ensures { ImageOf own.now main.now hit result.now }
 {
     match hit {
-        Hit::InOverride { start, len } => part(own, start, len),
-        Hit::InMain { start, len } => part(main, start, len),
-        Hit::Nowhere(_) => &own[..0],
+        Ok(Hit::InOverride(Span { start, len })) => part(own, start, len),
+        Ok(Hit::InMain(Span { start, len })) => part(main, start, len),
+        Err(_) => &[],
     }
 }

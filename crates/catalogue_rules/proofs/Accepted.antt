@@ -116,21 +116,21 @@ module _ (a : ℕ) where
   given-if n file (catalogue fs) c k q e = found-if file fs c k q e _ _ (ap (numbered_spot n) (spots_parsed file fs q a))
 
   module _ (file : List ℕ) where
-    pub refused-latest : (why : Refusal) → Err why ≡ judged (parsed file) → Err why ≡ latest_in a (parsed file)
-    refused-latest why e = latest-refused (parsed file) why e
+    pub refused_latest : (why : Refusal) → Err why ≡ judged (parsed file) → Err why ≡ latest_in a (parsed file)
+    refused_latest why e = latest-refused (parsed file) why e
 
-    pub refused-given : (n : ℕ) (why : Refusal) → Err why ≡ judged (parsed file) → Err why ≡ given_in a n (parsed file)
-    refused-given n why e = given-refused n (parsed file) why e
+    pub refused_given : (n : ℕ) (why : Refusal) → Err why ≡ judged (parsed file) → Err why ≡ given_in a n (parsed file)
+    refused_given n why e = given-refused n (parsed file) why e
 
-    pub refused-looked : (main : Reading) (why : Refusal) → Err why ≡ judged (parsed file) → Err why ≡ looked_up a (parsed file) main
-    refused-looked main why e = looked-refused (parsed file) main why e
+    pub refused_looked : (main : Reading) (why : Refusal) → Err why ≡ judged (parsed file) → Err why ≡ looked_up a (parsed file) main
+    refused_looked main why e = looked-refused (parsed file) main why e
 
     module _ (c k : ℕ) (e : Ok (counts c k) ≡ judged (parsed file)) where
-      pub sound-latest : found_in c file (last_spot (Err NoSuchCard) (spots_at a 0 (fields_of file))) ≡ latest_in a (parsed file)
-      sound-latest = latest-if file (parsed file) c k refl e
+      pub sound_latest : found_in c file (last_spot (Err NoSuchCard) (spots_at a 0 (fields_of file))) ≡ latest_in a (parsed file)
+      sound_latest = latest-if file (parsed file) c k refl e
 
-      pub sound-given : (n : ℕ) → found_in c file (numbered_spot n (spots_at a 0 (fields_of file))) ≡ given_in a n (parsed file)
-      sound-given n = given-if n file (parsed file) c k refl e
+      pub sound_given : (n : ℕ) → found_in c file (numbered_spot n (spots_at a 0 (fields_of file))) ≡ given_in a n (parsed file)
+      sound_given n = given-if n file (parsed file) c k refl e
 
 -- ---- two files
 
@@ -167,17 +167,17 @@ module _ (a : ℕ) (own : List ℕ) where
       ∙ ap (λ (ss : List Spot). where_sound (leb (length (addresses_of fs)) 64 && leb (length (addresses_of gs)) 64) (any_twice (addresses_of fs) || any_twice (addresses_of gs)) (last_spot (Err NoSuchCard) ss)) (spots_parsed main gs q' a))
 
   module _ (c k : ℕ) (e : Ok (counts c k) ≡ judged (parsed own)) where
-    pub override-has : (main : Reading) (t : Bool) → t ≡ is_among a (addresses_of (fields_of own)) → t ≡ true
+    pub override_has : (main : Reading) (t : Bool) → t ≡ is_among a (addresses_of (fields_of own)) → t ≡ true
         → in_override (found_in c own (last_spot (Err NoSuchCard) (spots_at a 0 (fields_of own)))) ≡ looked_up a (parsed own) main
-    override-has main t l y = has-if (parsed own) main c k refl e (sym l ∙ y)
+    override_has main t l y = has-if (parsed own) main c k refl e (sym l ∙ y)
 
     pub main_is_refused : (main : List ℕ) (t : Bool) → t ≡ is_among a (addresses_of (fields_of own)) → t ≡ false
         → (why : Refusal) → Err why ≡ judged (parsed main) → Err why ≡ looked_up a (parsed own) (parsed main)
     main_is_refused main t l y why e' = lacks_if (parsed own) (parsed main) c k refl e (sym l ∙ y) _ (λ fs q. main-refused a fs (parsed main) why e')
 
-    pub main-has : (main : List ℕ) (t : Bool) → t ≡ is_among a (addresses_of (fields_of own)) → t ≡ false
+    pub main_has : (main : List ℕ) (t : Bool) → t ≡ is_among a (addresses_of (fields_of own)) → t ≡ false
         → (d m : ℕ) → Ok (counts d m) ≡ judged (parsed main)
         → main_in c d own main (last_spot (Err NoSuchCard) (spots_at a 0 (fields_of main))) ≡ looked_up a (parsed own) (parsed main)
-    main-has main t l y d m e' =
+    main_has main t l y d m e' =
         lacks_if (parsed own) (parsed main) c k refl e (sym l ∙ y) _
         (λ fs q. else_if fs main (parsed main) c k d m q (e ∙ ap judged q) refl e')

@@ -25,8 +25,8 @@ both_if true false = refl
 both_if false b = refl
 
 -- Room in both files.
-pub both-room : (n m : ℕ) (t : Bool) → (ltb 64 n || ltb 64 m) ≡ t → (leb n 64 && leb m 64) ≡ not t
-both-room n m t e =
+pub both_room : (n m : ℕ) (t : Bool) → (ltb 64 n || ltb 64 m) ≡ t → (leb n 64 && leb m 64) ≡ not t
+both_room n m t e =
     both_if (leb n 64) (leb m 64)
     ∙ ap (λ (x : Bool). not (x || not (leb m 64))) (is_crowd n)
     ∙ ap (λ (x : Bool). not (ltb 64 n || x)) (is_crowd m)

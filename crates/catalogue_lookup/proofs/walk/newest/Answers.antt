@@ -2,33 +2,35 @@
 -- The measure is what is left of the file.
 -- Assumes nothing.
 use native.Mathlib.Omega.{arith}
-use mathlib.Core.Path.{sym, ◌∙◌}
+use mathlib.Core.Path.{sym, ap, ◌∙◌}
 use lib.ListN.{drop}
+use borrow.Author.Tests.{ne_eqb}
+use Rattle.std.specs.Prelude.{Ok, Err}
 use Rattle.refusal.specs.declared.Refusal.TheVariants.{NoSuchCard}
 use Rattle.catalogue_rules.proofs.At.{stands, stops}
-use Rattle.catalogue_rules.specs.declared.Place.TheVariants.{Refused}
 use Rattle.catalogue_rules.proofs.Spots.{any-number, newest-on, newest-end, newest-none}
 use Rattle.catalogue_lookup.proofs.walk.newest.Goals as goal
+use Rattle.catalogue_lookup.proofs.walk.newest.Goals.{then-f-eq-IMAGE, else-f-eq-IMAGE}
 
-pub loop-best-init : goal.loop-best-init
-loop-best-init c = λ n. any-number _ _ n 0 (Refused NoSuchCard)
+pub loop-f-init : goal.loop-f-init
+loop-f-init c = λ n. any-number _ _ n 0 (Err NoSuchCard)
 
-pub returns-in-Cut : goal.returns-in-Cut
-returns-in-Cut c =
-    newest-none c.loop-best.at (drop c.loop-best.at c.args.file.now) c.loop-best.best _ (stops {file = c.args.file.now} {at = c.loop-best.at} (sym c.in-Cut.is ∙ c.field_at.ensures)).none c.loop-best.invariant
+pub returns-in_default : goal.returns-in_default
+returns-in_default c =
+    newest-none c.loop-f.at (drop c.loop-f.at c.args.file.now) c.loop-f.best _ (stops {file = c.args.file.now} {at = c.loop-f.at} (sym c.in_default.is ∙ c.field_at.ensures)).none c.loop-f.invariant
 
-pub returns-then-tag-eq1 : goal.returns-then-tag-eq1
-returns-then-tag-eq1 c =
-    newest-end c.args.file.now c.loop-best.at (stands {file = c.args.file.now} {at = c.loop-best.at} (sym c.in-Whole.is ∙ c.field_at.ensures)) c.loop-best.best _ c.loop-best.invariant c.if-tag-eq1.true
+pub returns-then-f-eq-ADDRESS : goal.returns-then-f-eq-ADDRESS
+returns-then-f-eq-ADDRESS c =
+    newest-end c.args.file.now c.loop-f.at (stands {file = c.args.file.now} {at = c.loop-f.at} (sym c.in-Some.is ∙ c.field_at.ensures)) c.loop-f.best _ c.loop-f.invariant c.if-f-eq-ADDRESS.true
 
-pub overflow_add-at : goal.overflow_add-at
-overflow_add-at c =
-    omega (arith, (stands {file = c.args.file.now} {at = c.loop-best.at} (sym c.in-Whole.is ∙ c.field_at.ensures)).fits)
+pub loop-f-smaller : goal.loop-f-smaller
+loop-f-smaller c =
+    omega (arith, (stands {file = c.args.file.now} {at = c.loop-f.at} (sym c.in-Some.is ∙ c.field_at.ensures)).fits, (stands {file = c.args.file.now} {at = c.loop-f.at} (sym c.in-Some.is ∙ c.field_at.ensures)).behind_head)
 
-pub loop-best-smaller : goal.loop-best-smaller
-loop-best-smaller c =
-    omega (arith, (stands {file = c.args.file.now} {at = c.loop-best.at} (sym c.in-Whole.is ∙ c.field_at.ensures)).fits, (stands {file = c.args.file.now} {at = c.loop-best.at} (sym c.in-Whole.is ∙ c.field_at.ensures)).behind_head)
-
-pub loop-best-preserved : goal.loop-best-preserved
-loop-best-preserved c =
-    newest-on c.args.file.now c.loop-best.at (stands {file = c.args.file.now} {at = c.loop-best.at} (sym c.in-Whole.is ∙ c.field_at.ensures)) c.loop-best.best _ c.loop-best.invariant c.if-tag-eq1.false _ c.newer-best.ensures
+pub loop-f-preserved : goal.loop-f-preserved
+loop-f-preserved c =
+    newest-on c.args.file.now c.loop-f.at (stands {file = c.args.file.now} {at = c.loop-f.at} (sym c.in-Some.is ∙ c.field_at.ensures)) c.loop-f.best _ c.loop-f.invariant c.if-f-eq-ADDRESS.false c.if-f-eq-IMAGE.best
+    (elim c.if-f-eq-IMAGE.branch [
+      | then-f-eq-IMAGE w ↦ rw w.if-f-eq-IMAGE.true (w.best-is ∙ ap Ok w.span.ensures)
+      | else-f-eq-IMAGE w ↦ rw (ne_eqb c.in-Some.f.tag 3 w.if-f-eq-IMAGE.false) w.best-is
+    ])

@@ -2,32 +2,38 @@
 -- The measure is what is left of the file.
 -- Assumes nothing.
 use native.Mathlib.Omega.{arith}
-use mathlib.Core.Path.{sym, ◌∙◌}
+use mathlib.Core.Path.{sym, ap, ◌∙◌}
 use lib.ListN.{drop}
+use Rattle.std.specs.Prelude.{true, false, Ok}
+use borrow.Author.Tests.{eq-eqb, ne_eqb}
 use Rattle.catalogue_rules.proofs.At.{stands, stops}
+use Rattle.catalogue_rules.proofs.Bools.{and_no, and_yes}
 use Rattle.catalogue_rules.proofs.Spots.{numbered-none, numbered-end, numbered-hit, numbered-on}
 use Rattle.catalogue_lookup.proofs.walk.numbered.Goals as goal
+use Rattle.catalogue_lookup.proofs.walk.numbered.Goals.{in-2, in-3+else-told-number, in_default-1}
 
-pub returns-in-Cut : goal.returns-in-Cut
-returns-in-Cut c =
-    numbered-none c.loop-tag.at (drop c.loop-tag.at c.args.file.now) c.loop-tag.told c.args.number _ (stops {file = c.args.file.now} {at = c.loop-tag.at} (sym c.in-Cut.is ∙ c.field_at.ensures)).none c.loop-tag.invariant
+pub returns-in_default : goal.returns-in_default
+returns-in_default c =
+    numbered-none c.loop-f.at (drop c.loop-f.at c.args.file.now) c.loop-f.told c.args.number _ (stops {file = c.args.file.now} {at = c.loop-f.at} (sym c.in_default.is ∙ c.field_at.ensures)).none c.loop-f.invariant
 
-pub returns-then-tag-eq1 : goal.returns-then-tag-eq1
-returns-then-tag-eq1 c =
-    numbered-end c.args.file.now c.loop-tag.at (stands {file = c.args.file.now} {at = c.loop-tag.at} (sym c.in-Whole.is ∙ c.field_at.ensures)) c.loop-tag.told c.args.number _ c.loop-tag.invariant c.if-tag-eq1.true
+pub returns-in-1 : goal.returns-in-1
+returns-in-1 c =
+    numbered-end c.args.file.now c.loop-f.at (stands {file = c.args.file.now} {at = c.loop-f.at} (sym c.in-Some.is ∙ c.field_at.ensures)) c.loop-f.told c.args.number _ c.loop-f.invariant c.in-1.is
 
-pub returns-then-tag-told : goal.returns-then-tag-told
-returns-then-tag-told c =
-    numbered-hit c.args.file.now c.loop-tag.at (stands {file = c.args.file.now} {at = c.loop-tag.at} (sym c.in-Whole.is ∙ c.field_at.ensures)) c.loop-tag.told c.args.number _ c.loop-tag.invariant c.if-tag-eq1.false c.if-tag-told.true
+pub returns-in-3 : goal.returns-in-3
+returns-in-3 c =
+    ap Ok c.span.ensures ∙ numbered-hit c.args.file.now c.loop-f.at (stands {file = c.args.file.now} {at = c.loop-f.at} (sym c.in-Some.is ∙ c.field_at.ensures)) c.loop-f.told c.args.number _ c.loop-f.invariant (λ e. omega arith) (and_yes _ _ true (eq-eqb _ _ c.in-3.is) (eq-eqb _ _ c.if-told-number.true))
 
-pub overflow_add-at : goal.overflow_add-at
-overflow_add-at c =
-    omega (arith, (stands {file = c.args.file.now} {at = c.loop-tag.at} (sym c.in-Whole.is ∙ c.field_at.ensures)).fits)
+pub loop-f-smaller : goal.loop-f-smaller
+loop-f-smaller c =
+    omega (arith, (stands {file = c.args.file.now} {at = c.loop-f.at} (sym c.in-Some.is ∙ c.field_at.ensures)).fits, (stands {file = c.args.file.now} {at = c.loop-f.at} (sym c.in-Some.is ∙ c.field_at.ensures)).behind_head)
 
-pub loop-tag-smaller : goal.loop-tag-smaller
-loop-tag-smaller c =
-    omega (arith, (stands {file = c.args.file.now} {at = c.loop-tag.at} (sym c.in-Whole.is ∙ c.field_at.ensures)).fits, (stands {file = c.args.file.now} {at = c.loop-tag.at} (sym c.in-Whole.is ∙ c.field_at.ensures)).behind_head)
-
-pub loop-tag-preserved : goal.loop-tag-preserved
-loop-tag-preserved c =
-    numbered-on c.args.file.now c.loop-tag.at (stands {file = c.args.file.now} {at = c.loop-tag.at} (sym c.in-Whole.is ∙ c.field_at.ensures)) c.loop-tag.told c.args.number _ c.loop-tag.invariant c.if-tag-eq1.false c.if-tag-told.false _ c.due-told.ensures
+-- A number is told; an image with another number, and any other field, leaves it.
+pub loop-f-preserved : goal.loop-f-preserved
+loop-f-preserved c =
+    let on = numbered-on c.args.file.now c.loop-f.at (stands {file = c.args.file.now} {at = c.loop-f.at} (sym c.in-Some.is ∙ c.field_at.ensures)) c.loop-f.told c.args.number _ c.loop-f.invariant in
+    elim c.match-f.branch [
+      | in-2 w ↦ on (λ e. omega arith) (and_no _ _ (ne_eqb c.in-Some.f.tag 3 (λ e. omega arith))) c.match-f.told (rw w.in-2.is (w.told-is ∙ w.value_number-told.ensures))
+      | in-3+else-told-number w ↦ on (λ e. omega arith) (and_yes _ _ false (eq-eqb _ _ w.in-3.is) (ne_eqb _ _ w.if-told-number.false)) c.match-f.told (rw (ne_eqb c.in-Some.f.tag 2 (λ e. omega arith)) w.told-is)
+      | in_default-1 w ↦ on (λ e. omega arith) (and_no _ _ (ne_eqb c.in-Some.f.tag 3 (λ e. omega arith))) c.match-f.told (rw (ne_eqb c.in-Some.f.tag 2 (λ e. omega arith)) w.told-is)
+    ]

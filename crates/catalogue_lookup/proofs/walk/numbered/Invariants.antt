@@ -8,8 +8,8 @@ use Rattle.catalogue_rules.specs.Field.{fields_of}
 use Rattle.catalogue_rules.specs.Lookup.{spots_from, numbered_spot}
 use Rattle.catalogue_lookup.proofs.walk.numbered.Given as goal
 
-abbrev pub invariant-loop-tag : goal.invariant-loop-tag
-invariant-loop-tag l = numbered_spot l.number (spots_from l.at l.told (fields_of (drop l.at l.file))) ≡ numbered_spot l.number (spots_from l.from 0 (fields_of (drop l.from l.file)))
+abbrev pub invariant-loop-f : goal.invariant-loop-f
+invariant-loop-f l = numbered_spot l.number (spots_from l.at l.told (fields_of (drop l.at l.file))) ≡ numbered_spot l.number (spots_from l.from 0 (fields_of (drop l.from l.file)))
 
-abbrev pub decreases-loop-tag : goal.decreases-loop-tag
-decreases-loop-tag l = length l.file - l.at
+abbrev pub decreases-loop-f : goal.decreases-loop-f
+decreases-loop-f l = length l.file - l.at

@@ -71,8 +71,7 @@ fn read_2(c: Card, o: u16) -> u16
 {
     if o < 6 {
         let i = o as usize;
-        let station = c.config.station;
-        return bits::pair(station[i + 1], station[i]);
+        return bits::pair(c.config.station[i + 1], c.config.station[i]);
     }
     0
 }
@@ -121,8 +120,7 @@ fn read_in(ram: &[u8], dir: &[u16], c: Card, o: u16) -> u16
     requires { Sound c ram.now dir.now × (o % 2 ≡ 0) × (c.select.window ≡ 1 → 4 ≤ o) × (o ≡ 0x0E → ⊥) }
     ensures { result ≡ word_at o (view c ram.now dir.now) }
 {
-    let window = c.select.window;
-    match window {
+    match c.select.window {
         0 => read_0(c, o),
         1 => read_1(ram, dir, c, o),
         2 => read_2(c, o),

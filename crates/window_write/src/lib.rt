@@ -9,7 +9,7 @@ ghost use Rattle.transmit_rules.specs.Outcome.{pop};
 ghost use Rattle.card_rules.specs.Command.{reported};
 ghost use Rattle.card_rules.specs.Write.{writing, mixed as mixed_of, covers_low, covers_high, controlled, eeprom as eeprom_of, on_low, write0, write1, write2, write3, resplit as resplit_of, write as write_of};
 
-use card_rules::{Card, Lanes};
+use card_rules::{Card, Lanes, Setup};
 
 mod setup; // setup.rt: the EEPROM behind window 0: its commands, at once
 
@@ -27,25 +27,17 @@ fn mixed(l: Lanes, v: u16, old: u16) -> u16
 fn covers_low(l: Lanes) -> bool
     ensures { result ≡ covers_low l }
 {
-    match l {
-        Lanes::Both => true,
-        Lanes::Low => true,
-        Lanes::High => false,
-    }
+    matches!(l, Lanes::Both | Lanes::Low)
 }
 
 fn covers_high(l: Lanes) -> bool
     ensures { result ≡ covers_high l }
 {
-    match l {
-        Lanes::Both => true,
-        Lanes::Low => false,
-        Lanes::High => true,
-    }
+    matches!(l, Lanes::Both | Lanes::High)
 }
 
 // Configuration Control.
-fn control(c: Card, l: Lanes, v: u16) -> Card
+fn control(mut c: Card, l: Lanes, v: u16) -> Card
     ensures { Does c result (on_low l controlled v) }
 {
     if !covers_low(l) {
@@ -55,28 +47,24 @@ fn control(c: Card, l: Lanes, v: u16) -> Card
     if bits::has(low, 4) {
         return regs::reset(c);
     }
-    let enabled = bits::has(low, 1);
-    let mut next = c;
-    next.config.enabled = enabled;
-    next
+    c.config.enabled = bits::has(low, 1);
+    c
 }
 
 // Address Configuration.
-fn set_address(c: Card, v: u16) -> Card
+fn set_address(mut c: Card, v: u16) -> Card
     ensures { result ≡ card_id (id_address v c.id) c }
 {
-    let mut next = c;
-    next.id.address = v;
-    next
+    c.id.address = v;
+    c
 }
 
 // Resource Configuration.
-fn set_resource(c: Card, v: u16) -> Card
+fn set_resource(mut c: Card, v: u16) -> Card
     ensures { result ≡ card_config (config_resource v c.config) c }
 {
-    let mut next = c;
-    next.config.resource = v;
-    next
+    c.config.resource = v;
+    c
 }
 
 // The EEPROM command.
@@ -86,22 +74,16 @@ fn eeprom(c: Card, l: Lanes, v: u16) -> Card
     if !covers_low(l) {
         return c;
     }
-    let done = setup::prom_command((v % 256) as u8, c.id, c.prom);
-    let id = done.id;
-    let prom = done.prom;
-    let mut next = c;
-    next.id = id;
-    next.prom = prom;
-    next
+    let Setup { id, prom } = setup::prom_command((v % 256) as u8, c.id, c.prom);
+    Card { id, prom, ..c }
 }
 
 // EEPROM data.
-fn set_shift(c: Card, v: u16) -> Card
+fn set_shift(mut c: Card, v: u16) -> Card
     ensures { result ≡ card_id (id_shift v c.id) c }
 {
-    let mut next = c;
-    next.id.shift = v;
-    next
+    c.id.shift = v;
+    c
 }
 
 // Window 0.
@@ -123,10 +105,10 @@ fn write_data(ram: &mut [u8], dir: &mut [u16], c: Card, v: u16) -> Card
     requires { Sound c ram.old dir.old }
     ensures { Is result ram.new dir.new (writing v (view c ram.old dir.old)) }
 {
-    let transmit = transmit::write_data(ram, dir, regs::tx_size(c.config.second), c.transmit, v);
-    let mut next = c;
-    next.transmit = transmit;
-    next
+    Card {
+        transmit: transmit::write_data(ram, dir, regs::tx_size(c.config.second), c.transmit, v),
+        ..c
+    }
 }
 
 // The pop of TX Status.
@@ -134,10 +116,10 @@ fn pop_status(c: Card) -> Card
     requires { Stacked c.transmit.outcomes }
     ensures { Does c result (reported pop) }
 {
-    let transmit = transmit::pop_status(c.transmit);
-    let mut next = c;
-    next.transmit = transmit;
-    next
+    Card {
+        transmit: transmit::pop_status(c.transmit),
+        ..c
+    }
 }
 
 // Window 1: the data port, and the pop of TX Status.
@@ -148,15 +130,14 @@ fn write_1(ram: &mut [u8], dir: &mut [u16], c: Card, l: Lanes, o: u16, v: u16) -
     if o < 4 {
         return write_data(ram, dir, c, v);
     }
-    let high = covers_high(l);
-    if (o == 0x0a) & high {
+    if (o == 0x0a) & covers_high(l) {
         return pop_status(c);
     }
     c
 }
 
 // Window 2: the station address.
-fn write_2(c: Card, l: Lanes, o: u16, v: u16) -> Card
+fn write_2(mut c: Card, l: Lanes, o: u16, v: u16) -> Card
     requires { o % 2 ≡ 0 }
     ensures { Does c result (write2 l o v) }
 {
@@ -166,40 +147,31 @@ fn write_2(c: Card, l: Lanes, o: u16, v: u16) -> Card
         let w = mixed(l, v, bits::pair(station[i + 1], station[i]));
         station[i] = (w % 256) as u8;
         station[i + 1] = (w / 256) as u8;
-        let mut config = c.config;
-        config.station = station;
-        let mut next = c;
-        next.config = config;
-        return next;
+        c.config.station = station;
+        return c;
     }
     c
 }
 
 // The first Internal Configuration word.
-fn set_first(c: Card, v: u16) -> Card
+fn set_first(mut c: Card, v: u16) -> Card
     ensures { result ≡ card_config (config_first v c.config) c }
 {
-    let mut next = c;
-    next.config.first = v;
-    next
+    c.config.first = v;
+    c
 }
 
 // The second: a split written with a FIFO in use does nothing.
-fn resplit(c: Card, v: u16) -> Card
+fn resplit(mut c: Card, v: u16) -> Card
     ensures { Does c result (resplit_of v) }
 {
-    let frames = c.receive.frames;
-    let packets = c.transmit.fifo.packets;
-    let words = c.transmit.fifo.words;
-    let old = c.config.second;
-    let mut next = c;
-    if (0 < frames) | (0 < packets) | (0 < words) {
-        let second = v / 4 * 4 + old % 4;
-        next.config.second = second;
-        return next;
+    let fifo = c.transmit.fifo;
+    if (0 < c.receive.frames) | (0 < fifo.packets) | (0 < fifo.words) {
+        c.config.second = v / 4 * 4 + c.config.second % 4;
+        return c;
     }
-    next.config.second = v;
-    next
+    c.config.second = v;
+    c
 }
 
 // Window 3.
@@ -218,8 +190,7 @@ pub fn write(ram: &mut [u8], dir: &mut [u16], c: Card, l: Lanes, o: u16, v: u16)
     requires { Sound c ram.old dir.old × (o % 2 ≡ 0) }
     ensures { Is result ram.new dir.new (write_of l o v (view c ram.old dir.old)) }
 {
-    let window = c.select.window;
-    match window {
+    match c.select.window {
         0 => write_0(c, l, o, v),
         1 => write_1(ram, dir, c, l, o, v),
         2 => write_2(c, l, o, v),

@@ -10,54 +10,49 @@ fn read_register(i: IdState, n: usize) -> IdState
     requires { n < 64 }
     ensures { result ≡ read_word n i }
 {
-    let w = i.words[n];
-    let mut next = i;
-    next.shift = w;
-    next
+    IdState {
+        shift: i.words[n],
+        ..i
+    }
 }
 
 // Write Register.
-fn write_register(i: IdState, n: usize) -> IdState
+fn write_register(mut i: IdState, n: usize) -> IdState
     requires { n < 64 }
     ensures { result ≡ write_word n i }
 {
-    let w = i.words[n] & i.shift;
-    let mut next = i;
-    next.words[n] = w;
-    next
+    i.words[n] &= i.shift;
+    i
 }
 
 // Erase Register.
-fn erase_register(i: IdState, n: usize) -> IdState
+fn erase_register(mut i: IdState, n: usize) -> IdState
     requires { n < 64 }
     ensures { result ≡ erase_word n i }
 {
-    let mut next = i;
-    next.words[n] = 65535;
-    next
+    i.words[n] = 65535;
+    i
 }
 
 // Write All Registers.
 fn write_all(i: IdState) -> IdState
     ensures { result ≡ write_all i }
 {
-    let mut next = i;
-    let mut n: usize = 0;
-    while n < 64 {
-        let w = next.words[n] & i.shift;
-        next.words[n] = w;
-        n += 1;
+    let mut words = i.words;
+    for w in words.iter_mut() {
+        *w &= i.shift;
     }
-    next
+    IdState { words, ..i }
 }
 
 // Erase All Registers.
 fn erase_all(i: IdState) -> IdState
     ensures { result ≡ erase_all i }
 {
-    let mut next = i;
-    next.words = [65535; 64];
-    next
+    IdState {
+        words: [65535; 64],
+        ..i
+    }
 }
 
 // The state that a command leaves: its byte is kept, and whether erasing and writing is enabled after it.
@@ -66,10 +61,7 @@ fn leaving(v: u8, writable: bool, i: IdState) -> Setup
 {
     Setup {
         id: i,
-        prom: Prom {
-            last: v,
-            writable: writable,
-        },
+        prom: Prom { last: v, writable },
     }
 }
 
@@ -77,45 +69,24 @@ fn leaving(v: u8, writable: bool, i: IdState) -> Setup
 fn whole_command(v: u8, i: IdState, p: Prom) -> Setup
     ensures { result ≡ whole v i p }
 {
-    let which = v % 64 / 16;
-    if which == 3 {
-        return leaving(v, true, i);
+    match v % 64 / 16 {
+        3 => leaving(v, true, i),
+        2 if p.writable => leaving(v, false, erase_all(i)),
+        1 if p.writable => leaving(v, false, write_all(i)),
+        _ => leaving(v, false, i),
     }
-    if which == 2 {
-        if p.writable {
-            return leaving(v, false, erase_all(i));
-        }
-        return leaving(v, false, i);
-    }
-    if which == 1 {
-        if p.writable {
-            return leaving(v, false, write_all(i));
-        }
-        return leaving(v, false, i);
-    }
-    leaving(v, false, i)
 }
 
 // An EEPROM command.
 pub fn prom_command(v: u8, i: IdState, p: Prom) -> Setup
     ensures { result ≡ prom_command v i p }
 {
-    let code = v / 64;
     let n = (v % 64) as usize;
-    if code == 2 {
-        return leaving(v, p.writable, read_register(i, n));
+    match v / 64 {
+        2 => leaving(v, p.writable, read_register(i, n)),
+        1 if p.writable => leaving(v, false, write_register(i, n)),
+        3 if p.writable => leaving(v, false, erase_register(i, n)),
+        1 | 3 => leaving(v, false, i),
+        _ => whole_command(v, i, p),
     }
-    if code == 1 {
-        if p.writable {
-            return leaving(v, false, write_register(i, n));
-        }
-        return leaving(v, false, i);
-    }
-    if code == 3 {
-        if p.writable {
-            return leaving(v, false, erase_register(i, n));
-        }
-        return leaving(v, false, i);
-    }
-    whole_command(v, i, p)
 }

@@ -16,5 +16,5 @@ returns-then-has c ram dir h =
 pub returns : goal.returns
 unfolding controlled view
 returns c ram dir h =
-    rw (c.has-enabled.ensures, ← c.covers_low.ensures, c.if-not-covers_low.false, ← c.has.ensures, c.if-has.false)
+    rw (c.has-c.ensures, ← c.covers_low.ensures, c.if-not-covers_low.false, ← c.has.ensures, c.if-has.false)
     (is_config _ ram dir h _ refl)

@@ -13,6 +13,6 @@ returns c ram dir h =
     rw (
       ← c.covers_low.ensures,
       c.if-not-covers_low.false,
-      c.prom_command-done.ensures,
+      c.prom_command.ensures,
     )
     (is_prom _ ram dir (is_id _ ram dir h _).held _)

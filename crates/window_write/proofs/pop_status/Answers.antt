@@ -5,4 +5,4 @@ use Rattle.window_write.proofs.pop_status.Goals as goal
 
 pub returns : goal.returns
 unfolding view
-returns c ram dir h = is_tx _ ram dir ram dir h _ _ (c.pop_status-transmit.ensures _ ram dir h.packets)
+returns c ram dir h = is_tx _ ram dir ram dir h _ _ (c.pop_status.ensures _ ram dir h.packets)

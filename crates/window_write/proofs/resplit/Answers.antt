@@ -2,8 +2,8 @@
 use Rattle.card_rules.proofs.Split.{is_kept_lem, is_split}
 use Rattle.window_write.proofs.resplit.Goals as goal
 
-pub returns-then-frames-packets : goal.returns-then-frames-packets
-returns-then-frames-packets c ram dir h = is_kept_lem _ ram dir h _ c.if-frames-packets.true
+pub returns-then-c-fifo : goal.returns-then-c-fifo
+returns-then-c-fifo c ram dir h = is_kept_lem _ ram dir h _ c.if-c-fifo.true
 
 pub returns : goal.returns
-returns c ram dir h = is_split _ ram dir h _ c.if-frames-packets.false
+returns c ram dir h = is_split _ ram dir h _ c.if-c-fifo.false

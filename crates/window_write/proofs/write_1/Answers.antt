@@ -15,14 +15,14 @@ returns-then-o-lt4 c = rw (lt-ltb _ _ c.if-o-lt4.true) c.write_data.ensures
 pub pop_status-requires : goal.pop_status-requires
 pop_status-requires c = c.requires.held.statuses
 
-pub returns-then-o-high : goal.returns-then-o-high
+pub returns-then-o-covers_high : goal.returns-then-o-covers_high
 unfolding write1
-returns-then-o-high c =
-    rw (le-ltb _ _ c.if-o-lt4.false, ← c.covers_high-high.ensures, one_test, c.if-o-high.true)
+returns-then-o-covers_high c =
+    rw (le-ltb _ _ c.if-o-lt4.false, ← c.covers_high.ensures, one_test, c.if-o-covers_high.true)
     (c.pop_status.ensures _ _ c.requires.held)
 
 pub returns : goal.returns
 unfolding write1
 returns c =
-    rw (le-ltb _ _ c.if-o-lt4.false, ← c.covers_high-high.ensures, one_test, c.if-o-high.false)
+    rw (le-ltb _ _ c.if-o-lt4.false, ← c.covers_high.ensures, one_test, c.if-o-covers_high.false)
     (is_same _ _ _ c.requires.held)

@@ -6,10 +6,10 @@ use Rattle.card_rules.proofs.Join.{tx-does}
 use Rattle.card_rules.proofs.Sides.{tx_sound_at}
 use Rattle.window_write.proofs.write_data.Goals as goal
 
-pub write_data-transmit-requires : goal.write_data-transmit-requires
-write_data-transmit-requires c = tx_sound_at _ _ _ _ c.tx_size.ensures.0 c.requires
+pub write_data-requires : goal.write_data-requires
+write_data-requires c = tx_sound_at _ _ _ _ c.tx_size.ensures.0 c.requires
 
 pub returns : goal.returns
 unfolding view
 returns c =
-    tx-does _ _ _ _ _ c.requires.held (λ (n : ℕ). write_data n c.args.v) _ _ c.tx_size.ensures.0 c.write_data-transmit.ensures
+    tx-does _ _ _ _ _ c.requires.held (λ (n : ℕ). write_data n c.args.v) _ _ c.tx_size.ensures.0 c.write_data.ensures

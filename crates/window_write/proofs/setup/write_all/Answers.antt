@@ -1,31 +1,24 @@
--- `setup::write_all` meets its contract: after n turns the first n words are written. Assumes nothing.
+-- `setup::write_all` meets its contract: the words before the loop's place are masked. Assumes nothing.
 use borrow.Author.Rules.{rules}
 use mathlib.Core.Path.{◌≡◌, refl, sym, ap, ◌∙◌}
+use Prim.Native.Nat.{ℕ}
 use mathlib.Core.List.{List}
-use Prim.Native.Nat.{ℕ, ◌+◌}
 use native.Mathlib.Omega.{arith}
-use lib.ListN.{length, get_or, set}
-use Rattle.port_rules.specs.declared.IdState.{IdState}
-use Rattle.card_rules.specs.Update.{id_words}
-use Rattle.card_rules.specs.Eeprom.{write_all}
+use Rattle.bits.specs.UpTo.{up_to}
 use Rattle.bits.proofs.UpTo.{up_to_none, up_to_turn, up_to_all}
-use Rattle.window_write.proofs.setup.write_all.Invariants.{masked, written}
+use Rattle.card_rules.specs.Update.{id_words}
+use Rattle.window_write.proofs.setup.write_all.Invariants.{masked}
 use Rattle.window_write.proofs.setup.write_all.Goals as goal
 
-start : (i : IdState) → i ≡ written i 0
-start i = λ j. id_words (sym (up_to_none (masked i) i.words) j) i
+pub loop-w-init : goal.loop-w-init
+loop-w-init c = sym (up_to_none (masked c.args.i.shift) c.args.i.words)
 
-turn : (i next : IdState) (n : ℕ) → next ≡ written i n → id_words (set next.words n (masked i (get_or next.words n 0))) next ≡ written i (n + 1)
-turn i next n e = λ j. id_words (up_to_turn (masked i) n i.words next.words 0 (masked i (get_or next.words n 0)) (λ k. (e k).words) refl j) (e j)
-
-ends : (i next : IdState) (n : ℕ) → length i.words ≡ 64 → n ≡ 64 → next ≡ written i n → next ≡ write_all i
-ends i next n l h e = e ∙ ap (written i) h ∙ ap (λ (ws : List ℕ). id_words ws i) (up_to_all (masked i) 64 i.words (omega arith))
-
-pub loop-n-init : goal.loop-n-init
-loop-n-init c = (search rules, start c.args.i)
-
-pub loop-n-preserved : goal.loop-n-preserved
-loop-n-preserved c = (search rules, turn _ _ _ c.loop-n.invariant.1)
+pub loop-w-preserved : goal.loop-w-preserved
+loop-w-preserved c = up_to_turn (masked c.args.i.shift) c.loop-w.w-index c.args.i.words c.loop-w.w-items 0 _ c.loop-w.invariant refl
 
 pub returns : goal.returns
-returns c = ends _ _ _ (search rules) (omega arith) c.loop-n.invariant.1
+returns c =
+    let i = c.args.i in
+    let n : c.loop-w.w-index ≡ 64 = omega (arith, c.loop-w-test.false, c.loop-w.auto.w-index-end) in
+    ap (λ (ws : List ℕ). id_words ws i)
+    (c.loop-w.invariant ∙ ap (λ (k : ℕ). up_to (masked i.shift) k i.words) n ∙ up_to_all (masked i.shift) 64 i.words (search rules))

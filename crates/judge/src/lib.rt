@@ -1,7 +1,7 @@
 #![tactic(auto)]
 // What the driver goes by: the tests of its own state, of the words that it reads, and of a packet's length and room; and a packet's
 // bytes and length as they are written.
-ghost use Rattle.std.specs.Prelude.{◌≡◌, ◌≤◌, ◌<◌, get_or};
+ghost use Rattle.std.specs.Prelude.{◌≡◌, ◌≤◌, get_or};
 ghost use Rattle.store.specs.Store.{round4};
 ghost use Rattle.driver_rules.specs.Driver.{driver_sound};
 ghost use Rattle.driver_rules.specs.Packet.{outside, lacks_room};
@@ -66,10 +66,10 @@ pub fn length(rx: u16) -> usize
 }
 
 // Byte i of a packet, 0 past its end.
-pub fn byte_of(packet: &[u8], i: usize) -> u16
-    ensures { (result ≡ get_or packet.now i 0) × (result < 256) }
+pub fn byte_of(packet: &[u8], i: usize) -> u8
+    ensures { result ≡ get_or packet.now i 0 }
 {
-    u16::from(packet.get(i).copied().unwrap_or(0))
+    packet.get(i).copied().unwrap_or(0)
 }
 
 // A length rounded up to 4.

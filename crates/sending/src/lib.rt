@@ -1,16 +1,15 @@
 #![tactic(auto)]
 // Sending: the refusals in their order, the two preamble words and the data.
-ghost use Rattle.std.specs.Prelude.{◌≡◌, ◌≤◌, length};
+ghost use Rattle.std.specs.Prelude.{◌≡◌, ◌≤◌, length, Ok, Err};
 ghost use Rattle.card_rules.specs.View.{view, Sound, Stands};
-ghost use Rattle.driver_rules.specs.declared.SendAnswer.TheVariants.{Refused, Ticket};
 ghost use Rattle.driver_rules.specs.Driver.{sending};
 ghost use Rattle.driver_rules.specs.Packet.{packet_words};
 ghost use Rattle.driver_rules.specs.Talk.{run, words_of, after_writes};
 ghost use Rattle.driver_rules.specs.Send.{send_talk};
-ghost use Rattle.driver_rules.specs.Sends.{Sends};
+ghost use Rattle.driver_rules.specs.Sends.{Sends, Tests};
 
 use card_rules::Card;
-use driver_rules::{Driver, SendAnswer, Sent};
+use driver_rules::{After, Driver};
 use refusal::Refusal;
 
 // Completion wanted: bit 15 of the first preamble word.
@@ -22,13 +21,11 @@ fn write_data(ram: &mut [u8], dir: &mut [u16], c: Card, packet: &[u8], words: us
     ensures { Stands result ram.new dir.new (after_writes (words_of words packet.now) (view c ram.old dir.old)) }
 {
     let mut at = c;
-    let mut i: usize = 0;
-    while i < words {
+    for i in 0..words {
         let low = judge::byte_of(packet, 2 * i);
         let high = judge::byte_of(packet, 2 * i + 1);
-        let next = steps::write_word(ram, dir, at, driver_rules::DATA, low + 256 * high);
-        at = next;
-        i += 1;
+        let word = u16::from_le_bytes([low, high]);
+        at = steps::write_word(ram, dir, at, driver_rules::DATA, word);
     }
     at
 }
@@ -45,59 +42,69 @@ fn write_packet(ram: &mut [u8], dir: &mut [u16], c: Card, packet: &[u8]) -> Card
 }
 
 // A refusal: card and driver as they came.
-pub fn refused(c: Card, d: Driver, why: Refusal) -> Sent
-    ensures { result ≡ record { card = c; driver = d; answer = Refused why } }
+pub fn refused(c: Card, d: Driver, why: Refusal) -> After<u16>
+    ensures { result ≡ record { card = c; driver = d; answer = Err why } }
 {
-    Sent {
+    After {
         card: c,
         driver: d,
-        answer: SendAnswer::Refused(why),
+        answer: Err(why),
     }
 }
 
 // The ticket is the count of earlier packets modulo 65,536, and one more is unreported.
-fn ticketed(c: Card, d: Driver) -> Sent
+fn ticketed(c: Card, d: Driver) -> After<u16>
     requires { d.unreported ≤ 15 }
-    ensures { result ≡ record { card = c; driver = sending d; answer = Ticket d.sent } }
+    ensures { result ≡ record { card = c; driver = sending d; answer = Ok d.sent } }
 {
-    let ticket = d.sent;
     let next = Driver {
-        opened: d.opened,
-        sent: std::num::wrapping_add_u16(ticket, 1),
+        sent: d.sent.wrapping_add(1),
         unreported: d.unreported + 1,
-        error: d.error,
+        ..d
     };
-    Sent {
+    After {
         card: c,
         driver: next,
-        answer: SendAnswer::Ticket(ticket),
+        answer: Ok(d.sent),
     }
 }
 
-// A packet is written only after every refusal was passed.
-pub fn send(ram: &mut [u8], dir: &mut [u16], c: Card, d: Driver, packet: &[u8]) -> Sent
-    requires { Sound c ram.old dir.old }
-    ensures { Sends (run (send_talk d packet.now) (view c ram.old dir.old)) c ram.old dir.old result ram.new dir.new }
+// The tests of a send, in their order: the card after the two reads, where every test is passed.
+fn tests(ram: &[u8], dir: &[u16], c: Card, d: Driver, packet: &[u8]) -> Result<Card, Refusal>
+    requires { Sound c ram.now dir.now }
+    ensures { Tests d packet.now c ram.now dir.now result }
 {
     let n = packet.len();
     if !d.opened {
-        return refused(c, d, Refusal::NeverOpened);
+        return Err(Refusal::NeverOpened);
     }
     if judge::is_outside(n) {
-        return refused(c, d, Refusal::LengthOutside);
+        return Err(Refusal::LengthOutside);
     }
-    let waiting = d.unreported;
-    if judge::sizes::MOST_UNREPORTED <= waiting {
-        return refused(c, d, Refusal::SixteenUnreported);
+    if judge::sizes::MOST_UNREPORTED <= d.unreported {
+        return Err(Refusal::SixteenUnreported);
     }
     let status = steps::read_word(ram, dir, c, driver_rules::STATUS);
     if judge::is_unfit(status.value) {
-        return refused(c, d, Refusal::CardUnfit);
+        return Err(Refusal::CardUnfit);
     }
     let free = steps::read_word(ram, dir, status.card, driver_rules::TX_FREE);
     if judge::lacks_room(free.value, n) {
-        return refused(c, d, Refusal::NoRoom);
+        return Err(Refusal::NoRoom);
     }
-    let end = write_packet(ram, dir, free.card, packet);
-    ticketed(end, d)
+    Ok(free.card)
+}
+
+// A packet is written only after every refusal was passed.
+pub fn send(ram: &mut [u8], dir: &mut [u16], c: Card, d: Driver, packet: &[u8]) -> After<u16>
+    requires { Sound c ram.old dir.old }
+    ensures { Sends (run (send_talk d packet.now) (view c ram.old dir.old)) c ram.old dir.old result ram.new dir.new }
+{
+    match tests(ram, dir, c, d, packet) {
+        Ok(passed) => {
+            let end = write_packet(ram, dir, passed, packet);
+            ticketed(end, d)
+        }
+        Err(why) => refused(c, d, why),
+    }
 }

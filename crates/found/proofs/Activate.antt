@@ -3,7 +3,7 @@
 use Prim.Native.Nat.{ℕ, ◌+◌, ◌-◌, ◌<◌}
 use mathlib.Core.Path.{◌≡◌, refl, sym, ◌∙◌, ap}
 use mathlib.Core.Bool.{Bool, true, false, cond}
-use mathlib.Core.List.{List, [], ◌∷◌, map}
+use mathlib.Core.List.{List, [], ◌∷◌, map, map-map}
 use native.Mathlib.Omega.{arith}
 use lib.Dec.{eqb}
 use borrow.Author.Tests.{lt-ltb, le-ltb, eq-eqb, ne_eqb, eqb-true, eqb-false}
@@ -14,7 +14,7 @@ use Rattle.port_rules.specs.Search.{put, search, activate}
 use Rattle.port_rules.specs.Leads.{on}
 use Rattle.found.specs.Theorems.{Here, place, station, Kept, keeping, configured, activated_by, ActivationActivatesTheTaggedCard, AFoundCardIsActivatedAlone}
 use Rattle.found.proofs.Found.{finds_every_card}
-use Rattle.found.proofs.Run.{writes, map-map}
+use Rattle.found.proofs.Run.{writes}
 use Rattle.found.proofs.Called.{obeying, out, calls}
 use Rattle.found.proofs.Round.{deaf}
 

@@ -3,7 +3,7 @@
 use Prim.Native.Nat.{ℕ, zero, suc, ◌+◌, ◌*◌, ◌/◌, ◌<◌, ◌≤◌}
 use mathlib.Core.Path.{◌≡◌, refl, sym, ◌∙◌, ap, subst, subst₂}
 use mathlib.Core.Bool.{Bool, true, false, false≢true}
-use mathlib.Core.List.{List, [], ◌∷◌, map}
+use mathlib.Core.List.{List, [], ◌∷◌, map, map-map, map-id}
 use mathlib.Core.Logic.{◌⊎◌, inl, inr}
 use native.Mathlib.Omega.{arith}
 use lib.Dec.{eqb}
@@ -15,7 +15,7 @@ use Rattle.port_rules.specs.Search.{bits}
 use Rattle.found.specs.Theorems.{All}
 use Rattle.found.specs.OneCard.{shl, heard}
 use Rattle.port_rules.specs.Leads.{Leads, on, stay, step}
-use Rattle.found.proofs.Run.{map-map, map-eq, map_same, all_map}
+use Rattle.found.proofs.Run.{map-eq, all_map}
 use Rattle.found.proofs.Called.{out}
 
 -- a read, for a card that drives the bus's bit, one that does not, and one that is mute
@@ -107,7 +107,7 @@ number (suc n) m a = number n (shl m) (a * 2 + m / 32768)
 pub reads : {A : Type 0} (p n m a : ℕ) (k : ℕ → Talk A) (cs : List IdState) → m < 65536 → Some (Drives p m) cs → All (Above p m) cs →
     Leads p (bits n a k) cs n (k (number n m a)) (map (heard p n m) cs)
 unfolding bits heard number after value port_read
-reads p zero m a k cs h d o = subst (λ (ds : List IdState). Leads p (k a) cs 0 (k a) ds) (sym (map_same cs)) (stay p (k a) cs)
+reads p zero m a k cs h d o = subst (λ (ds : List IdState). Leads p (k a) cs 0 (k a) ds) (sym (map-id cs)) (stay p (k a) cs)
 reads p (suc n) m a k cs h d o =
     let b : ℕ = m / 32768 in
     let one : Leads p (bits (suc n) a k) cs 1 (bits n (a * 2 + b) k) (map (λ s. id_after_read s p b) cs) =
@@ -135,7 +135,7 @@ pub reads-ones : {A : Type 0} (p n a : ℕ) (k : ℕ → Talk A) (cs : List IdSt
 unfolding bits ones after value port_read
 reads-ones p zero a k cs h = stay p (k a) cs
 reads-ones p (suc n) a k cs h =
-    let e : map (λ s. id_after_read s p 1) cs ≡ cs = map-eq (λ s. id_after_read s p 1) (λ s. s) (λ s d. mute p 1 s d) cs h ∙ map_same cs in
+    let e : map (λ s. id_after_read s p 1) cs ≡ cs = map-eq (λ s. id_after_read s p 1) (λ s. s) (λ s d. mute p 1 s d) cs h ∙ map-id cs in
     let one : Leads p (bits (suc n) a k) cs 1 (bits n (a * 2 + 1) k) (map (λ s. id_after_read s p 1) cs) =
     subst (λ (c : ℕ). Leads p (bits (suc n) a k) cs 1 (bits n (a * 2 + c) k) (map (λ s. id_after_read s p c) cs)) (bus_mute p cs h) (step p read (λ c. bits n (a * 2 + c) k) cs) in
     let one' = subst (λ (ds : List IdState). Leads p (bits (suc n) a k) cs 1 (bits n (a * 2 + 1) k) ds) e one in

@@ -3,7 +3,7 @@
 use Prim.Native.Nat.{ℕ, ◌+◌, ◌*◌}
 use mathlib.Core.Path.{◌≡◌, refl, sym, ◌∙◌, ap, subst}
 use mathlib.Core.Bool.{cond}
-use mathlib.Core.List.{List, [], ◌∷◌, map}
+use mathlib.Core.List.{List, [], ◌∷◌, map, map-map}
 use native.Mathlib.Omega.{arith}
 use native.Mathlib.Nat.{zero-add}
 use lib.Dec.{ltb}
@@ -15,7 +15,7 @@ use Rattle.port_rules.specs.Port.{Talk, done, run}
 use Rattle.port_rules.specs.Search.{put, call_up, rounds, search}
 use Rattle.found.specs.Theorems.{All, station, keeping, Here, Findable, FindsAll, ascending, place, TheSearchFindsEveryCard, TheSearchCosts}
 use Rattle.port_rules.specs.Leads.{Leads, on}
-use Rattle.found.proofs.Run.{writes, map-map, map-eq, all_map}
+use Rattle.found.proofs.Run.{writes, map-eq, all_map}
 use Rattle.found.proofs.Called.{obeying, calls}
 use Rattle.found.proofs.Rounds.{untagged, Finds, finds, new_tag, costs}
 

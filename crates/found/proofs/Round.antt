@@ -3,7 +3,7 @@
 use Prim.Native.Nat.{ℕ, ◌+◌, ◌-◌, ◌*◌, ◌<◌, ◌≤◌}
 use mathlib.Core.Path.{◌≡◌, refl, sym, ◌∙◌, ap, subst, subst₂}
 use mathlib.Core.Bool.{Bool, true, false, false≢true}
-use mathlib.Core.List.{List, [], ◌∷◌, map}
+use mathlib.Core.List.{List, [], ◌∷◌, map, map-map}
 use mathlib.Core.Logic.{inl, inr}
 use native.Mathlib.Omega.{arith}
 use lib.Dec.{eqb}
@@ -14,7 +14,7 @@ use Rattle.port_rules.specs.Port.{Talk}
 use Rattle.port_rules.specs.Search.{put, bits, call_up, read_address, all_ones}
 use Rattle.found.specs.Theorems.{All, word_at, station, keeping, Here, Findable}
 use Rattle.port_rules.specs.Leads.{Leads, on}
-use Rattle.found.proofs.Run.{writes, map-map, all_map}
+use Rattle.found.proofs.Run.{writes, all_map}
 use Rattle.found.proofs.Called.{obeying, out, calls}
 use Rattle.found.proofs.Contend.{Some, some-map, Drives, Above, Mute, reads, reads-ones, ones, sixteen, heard_mute, heard-same, heard_other, out_mute}
 use Rattle.found.specs.OneCard.{heard}

@@ -3,7 +3,7 @@
 use Prim.Native.Nat.{ℕ, zero, suc, ◌+◌, ◌-◌, ◌*◌, ◌<◌, ◌≤◌}
 use mathlib.Core.Path.{◌≡◌, refl, sym, ◌∙◌, ap, subst, subst₂}
 use mathlib.Core.Bool.{Bool, true, false, cond}
-use mathlib.Core.List.{List, [], ◌∷◌, map}
+use mathlib.Core.List.{List, [], ◌∷◌, map, map-map}
 use mathlib.Core.Logic.{inl, inr}
 use native.Mathlib.Omega.{arith}
 use lib.Dec.{eqb, leb, ltb, leb-suc-suc}
@@ -15,7 +15,7 @@ use Rattle.port_rules.specs.Port.{Talk}
 use Rattle.port_rules.specs.Search.{put, rounds, all_ones}
 use Rattle.found.specs.Theorems.{All, Distinct, station, Kept, keeping, Here, Findable, ascending, place}
 use Rattle.port_rules.specs.Leads.{Leads, on, stay}
-use Rattle.found.proofs.Run.{writes, map-map, map-eq, all_map, all_both, all_all}
+use Rattle.found.proofs.Run.{writes, map-eq, all_map, all_both, all_all}
 use Rattle.found.proofs.Contend.{Some}
 use Rattle.found.proofs.Sort.{others, others_is, others-not, distinct-others, least_first, length-ascending}
 use Rattle.found.proofs.Round.{Readable, readable, Rival, Tagged, judged, round, round_none, idle, now3, ends, After, Ended, was, took, waits}

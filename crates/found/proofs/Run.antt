@@ -2,7 +2,7 @@
 -- Assumes nothing.
 use Prim.Native.Nat.{ℕ, ◌+◌}
 use mathlib.Core.Path.{◌≡◌, refl, sym, ◌∙◌, ap, subst}
-use mathlib.Core.List.{List, [], ◌∷◌, map}
+use mathlib.Core.List.{List, [], ◌∷◌, map, map-map, map-id}
 use native.Mathlib.Omega.{arith}
 use lib.ListN.{length}
 use Rattle.port_rules.specs.declared.IdState.{IdState}
@@ -14,14 +14,6 @@ use Rattle.found.specs.Theorems.{All}
 use Rattle.found.specs.OneCard.{wrote}
 
 -- lists
-pub map-map : {X Y Z : Type 0} (g : Y → Z) (f : X → Y) (xs : List X) → map g (map f xs) ≡ map (λ x. g (f x)) xs
-map-map g f [] = refl
-map-map g f (x ∷ xs) = ap (λ (ys : List _). g (f x) ∷ ys) (map-map g f xs)
-
-pub map_same : {X : Type 0} (xs : List X) → map (λ x. x) xs ≡ xs
-map_same [] = refl
-map_same (x ∷ xs) = ap (λ (ys : List _). x ∷ ys) (map_same xs)
-
 pub map-eq : {X Y : Type 0} {P : X → Type 0} (f g : X → Y) → ((x : X) → P x → f x ≡ g x) → (xs : List X) → All P xs → map f xs ≡ map g xs
 map-eq f g e [] a = refl
 map-eq f g e (x ∷ xs) (h, a) = λ i. e x h i ∷ map-eq f g e xs a i
@@ -48,7 +40,7 @@ writes p x k f g e cs a =
 -- bytes one after the other, card by card
 pub writes_all : {A : Type 0} (p : ℕ) (xs : List ℕ) (k : Talk A) (cs : List IdState) → Leads p (puts xs k) cs (length xs) k (map (wrote p xs) cs)
 unfolding puts wrote after port_write
-writes_all p [] k cs = subst (λ (ds : List IdState). Leads p k cs 0 k ds) (sym (map_same cs)) (stay p k cs)
+writes_all p [] k cs = subst (λ (ds : List IdState). Leads p k cs 0 k ds) (sym (map-id cs)) (stay p k cs)
 writes_all p (x ∷ xs) k cs =
     let one = step p (write x) (λ _. puts xs k) cs in
     let rest = writes_all p xs k (map (λ s. id_write s p x) cs) in

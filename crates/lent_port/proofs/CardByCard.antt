@@ -3,7 +3,7 @@
 use Prim.Native.Nat.{ℕ, zero, suc, min, ◌+◌, ◌-◌, ◌*◌, ◌/◌, ◌%◌, ◌<◌, ◌≤◌}
 use mathlib.Core.Path.{◌≡◌, refl, sym, ◌∙◌, ap, subst, subst₂}
 use mathlib.Core.Bool.{Bool, true, false, cond, not, ◌&&◌}
-use mathlib.Core.List.{List, [], ◌∷◌, map}
+use mathlib.Core.List.{List, [], ◌∷◌, map, map-map, map-id}
 use mathlib.Core.Logic.{inl, inr}
 use native.Mathlib.Omega.{arith}
 use lib.Dec.{eqb}
@@ -16,7 +16,7 @@ use Rattle.port_rules.specs.Search.{put, puts, id_bytes, call_up, read_address, 
 use Rattle.port_rules.specs.Leads.{Leads, on, stay}
 use Rattle.found.specs.Theorems.{All, word_at, station, Here, Kept}
 use Rattle.found.specs.OneCard.{wrote, heard}
-use Rattle.found.proofs.Run.{map-map, map_same, map-eq, all_map, all_both, writes, writes_all}
+use Rattle.found.proofs.Run.{map-eq, all_map, all_both, writes, writes_all}
 use Rattle.found.proofs.Called.{called, obeying, id_bytes-length}
 use Rattle.found.proofs.Contend.{Some, heard_mute}
 use Rattle.found.proofs.Round.{Readable, Rival, Tagged, judged, round, round_none, idle, now3, ends, After, Ended, was, took, waits, asked, obeying_drives}
@@ -218,7 +218,7 @@ module _ {A : Type 0} (p free : ℕ) (k : List ℕ → Talk A) (cs : List IdStat
 
 rounds-gone : {A : Type 0} (p free : ℕ) (k : List ℕ → Talk A) (cs : List IdState) → p < 16 → free ≤ 7 → All (Readable p) cs → Gone p free k cs (found free (map part cs))
 unfolding rounds found through
-rounds-gone p zero k cs p< h r = subst (λ (ds : List IdState). Leads p (k []) cs 0 (k []) ds) (sym (map_same cs)) (stay p (k []) cs)
+rounds-gone p zero k cs p< h r = subst (λ (ds : List IdState). Leads p (k []) cs 0 (k []) ds) (sym (map-id cs)) (stay p (k []) cs)
 rounds-gone {A} p (suc free) k cs p< h r = goes_on_lem p free k cs p< h r (eqb (least (map part cs)) all_ones) refl (λ (k' : List ℕ → Talk A) (ds : List IdState). rounds-gone p free k' ds p< (omega arith))
 
 -- ---- the search

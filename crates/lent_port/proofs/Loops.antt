@@ -3,12 +3,12 @@
 use Prim.Native.Nat.{ℕ, zero, suc, min, ◌+◌, ◌-◌, ◌*◌, ◌/◌, ◌%◌, ◌<◌, ◌≤◌}
 use mathlib.Core.Path.{◌≡◌, refl, sym, ◌∙◌, ap, subst}
 use mathlib.Core.Bool.{Bool, cond}
-use mathlib.Core.List.{List, [], ◌∷◌, ◌++◌, append-nil, map}
+use mathlib.Core.List.{List, [], ◌∷◌, ◌++◌, append-nil, map, map-append}
 use native.Mathlib.Omega.{arith}
-use native.Mathlib.Nat.{not-suc-le-zero, le_of_suc-le-suc}
 use native.Mathlib.Numerals.{add-one}
 use lib.ListN.{length, take, drop, get_or, set, replicate, take-append-drop, length-map, length-take}
-use lib.Seq.{drop-cons, take-suc, take-suc-set, append_snoc, drop-set-lt, drop-drop}
+use Rattle.std.proofs.lemmas.List.{drop_all, drop_more, take_more}
+use lib.Seq.{take-suc-set, append_snoc, set-append_seam, drop-set-lt, drop-drop}
 use borrow.Author.Tests.{eq-eqb, ne_eqb, lt-ltb}
 use Rattle.port_rules.specs.declared.IdState.{IdState}
 use Rattle.std.specs.List.{fold}
@@ -25,13 +25,6 @@ use Rattle.lent_port.specs.declared.roll.Progress.{Progress}
 use Rattle.lent_port.specs.Roll.{called_up, hears, takes_part, Worded, least, struck, found, rounds_cost, through}
 use Rattle.lent_port.specs.Steps.{entered, Blank, Finishes, found_of, Finds}
 use Rattle.lent_port.proofs.Ones.{least-top, real_more, found_real}
-
--- nothing stands past the end
-drop_all : (xs : List ℕ) (i : ℕ) → length xs ≤ i → drop i xs ≡ []
-drop_all [] zero h = refl
-drop_all [] (suc i) h = refl
-drop_all (x ∷ xs) zero h = absurd (not-suc-le-zero h)
-drop_all (x ∷ xs) (suc i) h = drop_all xs i (le_of_suc-le-suc h)
 
 -- the sequence, from its i-th byte on
 abbrev pub CalledAt : ℕ → ℕ → IdState → IdState → Type 0
@@ -86,14 +79,14 @@ unfolding through
 through_turn p i d a xs s₀ s r tag h l b t e c =
     let n : 7 - i ≡ suc (7 - (i + 1)) = omega arith in
     let g : tag ≡ 7 - (7 - (i + 1)) = omega arith in
-    let q : drop i xs ≡ get_or xs i d ∷ drop (i + 1) xs = drop-cons xs i d l ∙ ap (λ (k : ℕ). get_or xs i d ∷ drop k xs) (sym (add-one i)) in
+    let q : drop i xs ≡ get_or xs i d ∷ drop (i + 1) xs = drop_more xs i d l in
     ap (through p (7 - (i + 1)) (drop (i + 1) xs)) (e ∙ (λ z. id_write (hears p (b z) (called_up p s)) p (208 + g z))) ∙ (λ z. through p (sym n z) (sym q z) s) ∙ c
 
 pub through-ones : (p i : ℕ) (xs : List ℕ) (s₀ s r : IdState) → i < 7 → length xs ≤ i → r ≡ hears p all_ones (called_up p s) → ThroughAt p i xs s₀ s → r ≡ through p 7 xs s₀
 unfolding through
 through-ones p i xs s₀ s r h l e c =
     let n : 7 - i ≡ suc (6 - i) = omega arith in
-    e ∙ (λ z. through p (sym n z) (sym (drop_all xs i l) z) s) ∙ c
+    e ∙ (λ z. through p (sym n z) (sym (drop_all i xs l) z) s) ∙ c
 
 pub through-end : (p i : ℕ) (xs : List ℕ) (s₀ s : IdState) → 7 ≤ i → ThroughAt p i xs s₀ s → s ≡ through p 7 xs s₀
 unfolding through
@@ -154,21 +147,13 @@ pub filled : (xs : List ℕ) (r : Progress) → r.count ≡ length xs → take r
 filled xs r n l z = sym (take-append-drop r.count r.addresses) ∙ (λ i. l i ++ z i) ∙ ap (λ (m : ℕ). xs ++ replicate (7 - m) 0) n
 
 -- a card more on the roll
-set_next : (xs : List ℕ) (n a : ℕ) → set (xs ++ replicate (suc n) all_ones) (length xs) a ≡ (xs ++ (a ∷ [])) ++ replicate n all_ones
-set_next [] n a = refl
-set_next (x ∷ xs) n a = ap (λ (l : List ℕ). x ∷ l) (set_next xs n a)
-
-map_snoc : (f : IdState → ℕ) (xs : List IdState) (s : IdState) → map f (xs ++ (s ∷ [])) ≡ map f xs ++ (f s ∷ [])
-map_snoc f [] s = refl
-map_snoc f (x ∷ xs) s = ap (λ (l : List ℕ). f x ∷ l) (map_snoc f xs s)
-
 all_snoc : (xs : List IdState) (s : IdState) → All Worded xs → Worded s → All Worded (xs ++ (s ∷ []))
 all_snoc [] s a w = (w, tt)
 all_snoc (x ∷ xs) s (v, a) w = (v, all_snoc xs s a w)
 
 module _ (ys : List IdState) (i : ℕ) (d : IdState) (h : i < length ys) where
   one_more : take i ys ++ (get_or ys i d ∷ []) ≡ take (i + 1) ys
-  one_more = sym (take-suc ys i d h) ∙ ap (λ (j : ℕ). take j ys) (sym (add-one i))
+  one_more = sym (take_more ys i d h)
 
   pub entered_turn : (x a : ℕ) (xs : List ℕ) → length ys ≤ 8 → a ≡ takes_part x (get_or ys i d) → xs ≡ map (takes_part x) (take i ys) ++ replicate (8 - i) all_ones →
       set xs i a ≡ map (takes_part x) (take (i + 1) ys) ++ replicate (8 - (i + 1)) all_ones
@@ -176,8 +161,9 @@ module _ (ys : List IdState) (i : ℕ) (d : IdState) (h : i < length ys) where
       let n : 8 - i ≡ suc (8 - (i + 1)) = omega arith in
       let l : i ≡ length (map (takes_part x) (take i ys)) = sym (length-map (take i ys) (takes_part x) ∙ length-take i ys ∙ omega arith) in
       (λ z. set ((q ∙ ap (λ (m : ℕ). map (takes_part x) (take i ys) ++ replicate m all_ones) n) z) (l z) (e z))
-      ∙ set_next (map (takes_part x) (take i ys)) (8 - (i + 1)) (takes_part x (get_or ys i d))
-      ∙ ap (λ (r : List ℕ). r ++ replicate (8 - (i + 1)) all_ones) (sym (map_snoc (takes_part x) (take i ys) (get_or ys i d)) ∙ ap (map (takes_part x)) one_more)
+      ∙ set-append_seam (map (takes_part x) (take i ys)) all_ones (replicate (8 - (i + 1)) all_ones) (takes_part x (get_or ys i d))
+      ∙ sym (append_snoc (map (takes_part x) (take i ys)) (takes_part x (get_or ys i d)) (replicate (8 - (i + 1)) all_ones))
+      ∙ ap (λ (r : List ℕ). r ++ replicate (8 - (i + 1)) all_ones) (sym (map-append (takes_part x) (take i ys) (get_or ys i d ∷ [])) ∙ ap (map (takes_part x)) one_more)
 
   pub worded_turn : Worded (get_or ys i d) → All Worded (take i ys) → All Worded (take (i + 1) ys)
   worded_turn w a = subst (All Worded) one_more (all_snoc (take i ys) (get_or ys i d) a w)

@@ -33,6 +33,7 @@ fn hear_word(card: IdState, x: u8, word: u16) -> IdState
 }
 
 // For words 00h, 01h, 02h a read command and 16 reads, in which the bus carries an address.
+#[tactic(auto, unfolding(crate::specs::Roll::hears))]
 pub fn hear(card: IdState, x: u8, address: u64) -> IdState
     ensures { result ≡ hears x address card }
 {

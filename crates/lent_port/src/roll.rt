@@ -47,7 +47,6 @@ fn least(addresses: [u64; 8]) -> u64
 }
 
 // The survivor is tagged: it takes part no more.
-#[tactic(auto, unfolding(crate::specs::Roll::struck))]
 fn struck(mut addresses: [u64; 8], address: u64) -> [u64; 8]
     ensures { result ≡ struck_of address addresses }
 {
@@ -58,6 +57,7 @@ fn struck(mut addresses: [u64; 8], address: u64) -> [u64; 8]
 }
 
 // The addresses of those that take part still, those found so far, and the accesses made.
+// The seven places and their count are those of the answer (`port_rules::AfterSearch`), which the C interface and the rule of fixed memory need.
 #[derive(Clone, Copy)]
 pub struct Progress {
     pub left: [u64; 8],
@@ -123,6 +123,7 @@ fn through(card: IdState, x: u8, addresses: &[u64]) -> IdState
 }
 
 // One card after the search: two zeros, sequence, D0h; then the rounds.
+#[tactic(auto, unfolding(crate::specs::Roll::searched_by))]
 pub fn searched(card: IdState, x: u8, addresses: &[u64]) -> IdState
     requires { length addresses.now ≤ 7 }
     ensures { result ≡ searched_by x addresses.now card }

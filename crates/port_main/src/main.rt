@@ -46,22 +46,12 @@ fn main(rt: HostRuntime) -> io::Result<()> {
     cards[0] = card(0x0020, 0xAF01, 0x0203);
     cards[1] = card(0x0020, 0xAF00, 0xFFFF);
     cards[2] = card(0x0000, 0, 1);
-    let searched = port::find_cards(
-        Bus {
-            cards: cards,
-            count: 3,
-        },
-        0x110,
-    );
-    let found = searched.answer;
+    let searched = port::find_cards(Bus { cards, count: 3 }, 0x110);
     let addresses = searched.addresses;
-    let bus = searched.bus;
-    tell_found(&rt, found)?;
+    tell_found(&rt, searched.answer)?;
     tell_addresses(&rt, addresses)?;
-    let activated = port::activate_card(bus, 0x110, 2, 5);
-    let answer = activated.answer;
-    tell_activation(&rt, answer)?;
-    let again = port::activate_card(bus, 0x110, 8, 5);
-    let refused = again.answer;
-    tell_activation(&rt, refused)
+    let activated = port::activate_card(searched.bus, 0x110, 2, 5);
+    tell_activation(&rt, activated.answer)?;
+    let again = port::activate_card(activated.bus, 0x110, 8, 5);
+    tell_activation(&rt, again.answer)
 }

@@ -6,7 +6,7 @@ ghost use Rattle.transmit_rules.specs.Leave.{told_of};
 ghost use Rattle.transmit_rules.specs.QueueView.{Tells};
 ghost use Rattle.transmit_rules.specs.Tx as tx;
 ghost use Rattle.card_rules.specs.Update.{with_rx, with_tx, lines_low};
-ghost use Rattle.card_rules.specs.Groups.{card_receive, card_lines};
+ghost use Rattle.card_rules.specs.Groups.{card_lines};
 ghost use Rattle.card_rules.specs.View.{rx_size_of, view, Sound, Is};
 ghost use Rattle.card_rules.specs.Write.{write_word, write_byte, executed};
 ghost use Rattle.card_rules.specs.Effect.{taken as taken_of};
@@ -20,13 +20,12 @@ pub fn take_word(ram: &[u8], dir: &[u16], c: Card) -> Got
     ensures is { Is result.card ram.now dir.now (with_rx (after_read (view c ram.now dir.now).rx) (view c ram.now dir.now)) }
 {
     let got = receive::read_data(ram, dir, regs::rx_size(c.config.second), c.receive);
-    let word = got.word;
-    let receive = got.receive;
-    let mut next = c;
-    next.receive = receive;
     Got {
-        card: next,
-        value: word,
+        card: Card {
+            receive: got.receive,
+            ..c
+        },
+        value: got.word,
     }
 }
 
@@ -42,12 +41,11 @@ pub fn write_word(ram: &mut [u8], dir: &mut [u16], c: Card, o: u16, v: u16) -> C
 }
 
 // The low byte of a command is held.
-fn hold(c: Card, v: u8) -> Card
+fn hold(mut c: Card, v: u8) -> Card
     ensures { result ≡ card_lines (lines_low v c.lines) c }
 {
-    let mut next = c;
-    next.lines.low = v;
-    next
+    c.lines.low = v;
+    c
 }
 
 // The high byte of a command: with the byte held it executes, and the held byte is 0 again.
@@ -56,8 +54,7 @@ fn execute(ram: &mut [u8], dir: &mut [u16], c: Card, v: u8) -> Card
     ensures { Is result ram.new dir.new (executed v (view c ram.old dir.old)) }
 {
     let word = bits::pair(v, c.lines.low);
-    let next = hold(c, 0);
-    commands::commanded(ram, dir, next, word)
+    commands::commanded(ram, dir, hold(c, 0), word)
 }
 
 // A byte written.
@@ -78,23 +75,12 @@ pub fn write_byte(ram: &mut [u8], dir: &mut [u16], c: Card, o: u16, v: u8) -> Ca
     window_write::write(ram, dir, c, Lanes::High, o - 1, w)
 }
 
-// The card with another receive side.
-fn with_receive(c: Card, receive: receive_rules::Receive) -> Card
-    ensures { result ≡ card_receive receive c }
-{
-    let mut next = c;
-    next.receive = receive;
-    next
-}
-
 // A frame starts.
 pub fn wire_start(ram: &mut [u8], dir: &mut [u16], c: Card, first: [u8; 8]) -> Card
     requires { Sound c ram.old dir.old × (c.receive.receiver.wire ≡ 0) }
     ensures { Is result ram.new dir.new (with_rx (wire.wire_start (rx_size_of c) (taken_of first (view c ram.old dir.old)) first (view c ram.old dir.old).rx) (view c ram.old dir.old)) }
 {
-    let filter = c.select.filter;
-    let station = c.config.station;
-    let taken = c.id.active & receive::passes_filter(filter, station, first);
+    let taken = c.id.active & receive::passes_filter(c.select.filter, c.config.station, first);
     let receive = receive::wire_start(
         ram,
         dir,
@@ -103,7 +89,7 @@ pub fn wire_start(ram: &mut [u8], dir: &mut [u16], c: Card, first: [u8; 8]) -> C
         taken,
         first,
     );
-    with_receive(c, receive)
+    Card { receive, ..c }
 }
 
 // The frame ends.
@@ -119,7 +105,7 @@ pub fn wire_end(ram: &mut [u8], dir: &mut [u16], c: Card, check: bool, alignment
         check,
         alignment,
     );
-    with_receive(c, receive)
+    Card { receive, ..c }
 }
 
 // The oldest packet goes out.
@@ -129,11 +115,13 @@ pub fn success(ram: &mut [u8], dir: &mut [u16], c: Card, out: &mut [u8]) -> Gone
     ensures tells { Tells result.n out.old out.new (told_of (view c ram.old dir.old).tx.queue.packets) }
 {
     let gone = transmit::success(ram, dir, regs::tx_size(c.config.second), c.transmit, out);
-    let n = gone.n;
-    let transmit = gone.transmit;
-    let mut next = c;
-    next.transmit = transmit;
-    Gone { card: next, n: n }
+    Gone {
+        card: Card {
+            transmit: gone.transmit,
+            ..c
+        },
+        n: gone.n,
+    }
 }
 
 // The oldest packet is lost to 16 collisions.
@@ -142,7 +130,5 @@ pub fn collisions(ram: &mut [u8], dir: &mut [u16], c: Card) -> Card
     ensures { Is result ram.new dir.new (with_tx (tx.collisions (view c ram.old dir.old).tx) (view c ram.old dir.old)) }
 {
     let transmit = transmit::collisions(ram, dir, regs::tx_size(c.config.second), c.transmit);
-    let mut next = c;
-    next.transmit = transmit;
-    next
+    Card { transmit, ..c }
 }

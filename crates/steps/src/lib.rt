@@ -28,17 +28,14 @@ pub fn read_word(ram: &[u8], dir: &[u16], c: Card, o: u16) -> Got
     }
     if (o < 4) & (c.select.window == 1) {
         let got = effects::take_word(ram, dir, c);
-        let word = got.value;
-        let card = regs::settle(ram, dir, got.card);
         return Got {
-            card: card,
-            value: word,
+            card: regs::settle(ram, dir, got.card),
+            value: got.value,
         };
     }
-    let value = window_read::word_at(ram, dir, c, o);
     Got {
         card: c,
-        value: value,
+        value: window_read::word_at(ram, dir, c, o),
     }
 }
 
@@ -54,16 +51,14 @@ pub fn read_byte(ram: &[u8], dir: &[u16], c: Card, o: u16) -> Got
         };
     }
     if o % 2 == 0 {
-        let value = window_read::word_at(ram, dir, c, o) % 256;
         return Got {
             card: c,
-            value: value,
+            value: window_read::word_at(ram, dir, c, o) % 256,
         };
     }
-    let value = window_read::word_at(ram, dir, c, o - 1) / 256;
     Got {
         card: c,
-        value: value,
+        value: window_read::word_at(ram, dir, c, o - 1) / 256,
     }
 }
 
@@ -125,9 +120,10 @@ pub fn success(ram: &mut [u8], dir: &mut [u16], c: Card, out: &mut [u8]) -> Gone
     ensures tells { Tells result.n out.old out.new (told_of (view c ram.old dir.old).tx.queue.packets) }
 {
     let gone = effects::success(ram, dir, c, out);
-    let n = gone.n;
-    let card = regs::settle(ram, dir, gone.card);
-    Gone { card: card, n: n }
+    Gone {
+        card: regs::settle(ram, dir, gone.card),
+        n: gone.n,
+    }
 }
 
 // A send outcome: 16 collisions.

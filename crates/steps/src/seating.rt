@@ -10,14 +10,10 @@ pub fn seat(c: Card, i: IdState) -> Card
     ensures { Does c result (seated i) }
 {
     if i.due {
-        let words = i.words;
-        let mut next = regs::power_on(words, receive::deafen(c.receive.receiver.wire));
-        let mut id = i;
-        id.due = false;
-        next.id = id;
-        return next;
+        return Card {
+            id: IdState { due: false, ..i },
+            ..regs::power_on(i.words, receive::deafen(c.receive.receiver.wire))
+        };
     }
-    let mut next = c;
-    next.id = i;
-    next
+    Card { id: i, ..c }
 }

@@ -12,18 +12,18 @@ returns-then-not-c c = gives-ones c.args.c _ _ c.requires.0 (ReadWord c.args.o) 
 pub take_word-got-requires : goal.take_word-got-requires
 take_word-got-requires c = c.requires.0
 
-pub settle-card-requires : goal.settle-card-requires
-settle-card-requires c =
+pub settle-requires : goal.settle-requires
+settle-requires c =
     unsettled _ _ _ _ c.take_word-got.ensures.is (taken-keeps (view c.args.c c.args.ram.now c.args.dir.now) c.requires.0.calm)
 
 pub returns-then-o-c : goal.returns-then-o-c
 returns-then-o-c c =
     gives_data c.args.c c.args.ram.now c.args.dir.now c.requires.0 c.args.o _ _ (not-false _ c.if-not-c.false) c.if-o-c.true c.take_word-got.ensures.value_value
-    (settled_as _ _ _ _ _ c.take_word-got.ensures.is c.settle-card.ensures)
+    (settled_as _ _ _ _ _ c.take_word-got.ensures.is c.settle.ensures)
 
-pub word_at-value-requires : goal.word_at-value-requires
-word_at-value-requires c = let s = c.requires in (s.0, s.1, beside_data _ _ c.if-o-c.false)
+pub word_at-requires : goal.word_at-requires
+word_at-requires c = let s = c.requires in (s.0, s.1, beside_data _ _ c.if-o-c.false)
 
 pub returns : goal.returns
 returns c =
-    gives-word c.args.c _ _ c.requires.0 c.args.o _ (not-false _ c.if-not-c.false) c.if-o-c.false c.word_at-value.ensures
+    gives-word c.args.c _ _ c.requires.0 c.args.o _ (not-false _ c.if-not-c.false) c.if-o-c.false c.word_at.ensures

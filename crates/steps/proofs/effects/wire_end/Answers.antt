@@ -1,4 +1,5 @@
 -- `effects::wire_end` meets its contract, by the law `stored`. Assumes nothing.
+use mathlib.Core.Path.{refl}
 use Rattle.receive_rules.specs.Wire as wire
 use Rattle.card_rules.proofs.Sides.{rx_sound_at}
 use Rattle.card_rules.proofs.EffectSides.{stored}
@@ -9,4 +10,4 @@ wire_end-receive-requires c = rx_sound_at _ _ _ _ c.rx_size.ensures.0 c.requires
 
 pub returns : goal.returns
 returns c =
-    stored c.args.c _ _ _ _ c.requires.held (λ n. wire.wire_end c.args.check c.args.alignment) _ _ _ c.rx_size.ensures.0 c.with_receive.ensures c.wire_end-receive.ensures
+    stored c.args.c _ _ _ _ c.requires.held (λ n. wire.wire_end c.args.check c.args.alignment) _ _ _ c.rx_size.ensures.0 refl c.wire_end-receive.ensures

@@ -24,7 +24,7 @@ pub fn weight_if(weight: u16, flag: bool) -> u16
     if flag { weight } else { 0 }
 }
 
-// Whether the bit of a weight 1, 2, 4, .. is set in a word.
+// Whether the bit of a weight 1, 2, 4, .. is set in a word. By division and not by a mask: this holds at any weight above 0, as the clause says it.
 pub fn has(word: u16, weight: u16) -> bool
     requires { 0 < weight }
     ensures { result ≡ has_of weight word }

@@ -3,6 +3,7 @@
 use refusal::Refusal;
 
 // A card on the ID port. In ID_WAIT (`command` is false) it listens for the sequence at the port that a zero chose; in ID_CMD it obeys.
+// Flags and numbers, and no enum or Option: the C interface hands this struct over as it lies.
 #[repr(C)]
 #[derive(Clone, Copy)]
 pub struct IdState {
@@ -22,7 +23,7 @@ pub struct IdState {
     pub words: [u16; 64],
 }
 
-// Up to eight cards, of which the first `count` are there.
+// Up to eight cards, of which the first `count` are there: the C interface hands this struct over as it lies.
 #[repr(C)]
 #[derive(Clone, Copy)]
 pub struct Bus {
@@ -45,6 +46,7 @@ pub struct Cards {
 }
 
 // The first `count` of `addresses` are the station addresses found, in ascending order; the others are 0.
+// Seven places beside the answer, since the C interface hands them over whole, refused or not.
 #[derive(Clone, Copy)]
 pub struct AfterSearch {
     pub bus: Bus,

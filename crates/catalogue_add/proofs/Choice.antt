@@ -9,52 +9,47 @@ use borrow.Author.Tests.{lt-ltb, le-ltb, le-leb, ltb-true, ltb-false, leb-false,
 use lib.ListN.{length}
 use lib.Dec.{eqb, ltb, leb}
 use Rattle.bits.proofs.Tests.{neither}
+use Rattle.std.specs.Prelude.{Result, Ok, Err}
 use Rattle.refusal.specs.declared.Refusal.{Refusal}
 use Rattle.refusal.specs.declared.Refusal.TheVariants.{ArgumentOutside, LengthOutside, NoPlace, ListedTwice}
-use Rattle.image_rules.specs.declared.Checked.{Checked}
-use Rattle.image_rules.specs.declared.Checked.TheVariants as checked
+use Rattle.image_rules.specs.declared.Node.{Node}
 use Rattle.image_rules.specs.Image.{check_of}
 use Rattle.catalogue_rules.specs.Field.{Field, field, fields_of}
-use Rattle.catalogue_rules.specs.declared.Judged.TheVariants as told
+use Rattle.catalogue_rules.specs.declared.Counts.{Counts}
 use Rattle.catalogue_rules.specs.Turns.{address_of}
-use Rattle.catalogue_rules.specs.Reading.{Reading, catalogue, refused, parsed, has_room, file_of, addresses_of, is_among, any_twice, read, judged}
+use Rattle.catalogue_rules.specs.Reading.{Reading, catalogue, refused, parsed, has_room, file_of, addresses_of, is_among, any_twice, read, judged, counts}
 use Rattle.catalogue_rules.specs.Cards.{versions_at}
-use Rattle.catalogue_rules.specs.declared.Seek.TheVariants.{Behind, Missing}
 use Rattle.catalogue_rules.proofs.Checked.{is_read}
 use Rattle.catalogue_rules.proofs.Accepted.{addresses_parsed}
 use Rattle.catalogue_rules.proofs.Ways.{is_crowd}
 use Rattle.catalogue_rules.specs.Archive.{address_in}
 use Rattle.catalogue_rules.specs.Edit as edit
 use Rattle.catalogue_rules.specs.Edit.{Change, or_else, if_sound, on_catalogue, version_fields, with_version, latest_number, whose, no_version, no_card, with_added, added_to, added}
-use Rattle.catalogue_rules.specs.declared.Written.{Written}
-use Rattle.catalogue_rules.specs.declared.Written.TheVariants as written
 use Rattle.catalogue_rules.specs.Put.{put_at}
 use Rattle.catalogue_rules.specs.PutContracts.{Writes}
 use Rattle.catalogue_rules.proofs.Changes.{settle, unread, refusing, writing}
-use Rattle.catalogue_put.specs.Places.{seek_if, card_place}
-use Rattle.catalogue_put.proofs.Behind.{missing_if, behind-if}
 use Rattle.catalogue_add.specs.Taken.{Parsed}
 
 -- No place where the first test holds, listed twice where the second does; the refusal of an unsound image; the new file.
-pub record Chooses (change : Change) (full twice : Bool) (k : Checked) (new : List ℕ) : Type 0 where
+pub record Chooses (change : Change) (full twice : Bool) (k : Result Node Refusal) (new : List ℕ) : Type 0 where
   pub is : change ≡ or_else full NoPlace (or_else twice ListedTwice (if_sound k (edit.bytes new)))
 
-module _ {change : Change} {full twice : Bool} {k : Checked} {new : List ℕ} (e : Chooses change full twice k new) (area : List ℕ) where
-  pub no_place_lem : full ≡ true → Writes change (written.Refused NoPlace) area area
+module _ {change : Change} {full twice : Bool} {k : Result Node Refusal} {new : List ℕ} (e : Chooses change full twice k new) (area : List ℕ) where
+  pub no_place_lem : full ≡ true → Writes change (Err NoPlace) area area
   no_place_lem h = refusing change NoPlace (e.is ∙ ap (λ (b : Bool). or_else b NoPlace (or_else twice ListedTwice (if_sound k (edit.bytes new)))) h) area
 
   module _ (h : full ≡ false) where
     has-place : change ≡ or_else twice ListedTwice (if_sound k (edit.bytes new))
     has-place = e.is ∙ ap (λ (b : Bool). or_else b NoPlace (or_else twice ListedTwice (if_sound k (edit.bytes new)))) h
 
-    pub is_twice : twice ≡ true → Writes change (written.Refused ListedTwice) area area
+    pub is_twice : twice ≡ true → Writes change (Err ListedTwice) area area
     is_twice t = refusing change ListedTwice (has-place ∙ ap (λ (b : Bool). or_else b ListedTwice (if_sound k (edit.bytes new))) t) area
 
-    pub unsound : twice ≡ false → (why : Refusal) → checked.Refused why ≡ k → Writes change (written.Refused why) area area
-    unsound t why u = refusing change why (has-place ∙ ap₂ (λ (b : Bool) (x : Checked). or_else b ListedTwice (if_sound x (edit.bytes new))) t (sym u)) area
+    pub unsound : twice ≡ false → (why : Refusal) → Err why ≡ k → Writes change (Err why) area area
+    unsound t why u = refusing change why (has-place ∙ ap₂ (λ (b : Bool) (x : Result Node Refusal). or_else b ListedTwice (if_sound x (edit.bytes new))) t (sym u)) area
 
-    pub sound : twice ≡ false → {x y z : ℕ} → checked.Sound x y z ≡ k → (after : List ℕ) (n : ℕ) → n ≡ length new → after ≡ put_at area 0 new → Writes change (written.Bytes n) area after
-    sound t u after n l p = writing change new (has-place ∙ ap₂ (λ (b : Bool) (x : Checked). or_else b ListedTwice (if_sound x (edit.bytes new))) t (sym u)) area after n l p
+    pub sound : twice ≡ false → {node : Node} → Ok node ≡ k → (after : List ℕ) (n : ℕ) → n ≡ length new → after ≡ put_at area 0 new → Writes change (Ok n) area after
+    sound t u after n l p = writing change new (has-place ∙ ap₂ (λ (b : Bool) (x : Result Node Refusal). or_else b ListedTwice (if_sound x (edit.bytes new))) t (sym u)) area after n l p
 
 -- What the tests leave.
 module _ (cards n : ℕ) (e : (leb 64 cards || ltb 65532 n) ≡ false) where
@@ -70,9 +65,6 @@ module _ (cards v last n : ℕ) (e : (ltb 64 cards || (leb 8 v || (leb 65535 las
 
   pub few_for_version : n < 65534
   few_for_version = let h : n ≤ 65533 = ltb-false 65533 n (neither (leb 65535 last) (ltb 65533 n) (neither (leb 8 v) (leb 65535 last || ltb 65533 n) on).1).1 in omega arith
-
-  pub number_fits : last < 65535
-  number_fits = leb-false 65535 last (neither (leb 65535 last) (ltb 65533 n) (neither (leb 8 v) (leb 65535 last || ltb 65533 n) on).1).0
 
   pub room_for_version : cards ≤ 64
   room_for_version = ltb-false 64 cards (neither (ltb 64 cards) (leb 8 v || (leb 65535 last || ltb 65533 n)) e).0
@@ -145,7 +137,7 @@ module _ (file : List ℕ) (fs : List Field) (e : parsed file ≡ catalogue fs) 
 
 -- The tests before: the area, the image's length, the file.
 module _ (file image area : List ℕ) where
-  pub short : length area < length file + 145 → Writes (added (length area) file image) (written.Refused ArgumentOutside) area area
+  pub short : length area < length file + 145 → Writes (added (length area) file image) (Err ArgumentOutside) area area
   unfolding added
   short h = refusing _ ArgumentOutside (ap (λ (b : Bool). or_else b ArgumentOutside (or_else (not (eqb (length image) 128)) LengthOutside (on_catalogue (parsed file) (added_to image)))) (lt-ltb (length area) (length file + 145) h)) area
 
@@ -154,39 +146,26 @@ module _ (file image area : List ℕ) where
     unfolding added
     roomy = ap (λ (b : Bool). or_else b ArgumentOutside (or_else (not (eqb (length image) 128)) LengthOutside (on_catalogue (parsed file) (added_to image)))) (le-ltb (length area) (length file + 145) fits)
 
-    pub wrong_length : (length image ≡ 128 → ⊥) → Writes (added (length area) file image) (written.Refused LengthOutside) area area
+    pub wrong_length : (length image ≡ 128 → ⊥) → Writes (added (length area) file image) (Err LengthOutside) area area
     wrong_length h = refusing _ LengthOutside (roomy ∙ ap (λ (b : Bool). or_else (not b) LengthOutside (on_catalogue (parsed file) (added_to image))) (ne_eqb (length image) 128 h)) area
 
     module _ (l : length image ≡ 128) where
       passed : added (length area) file image ≡ on_catalogue (parsed file) (added_to image)
       passed = roomy ∙ ap (λ (b : Bool). or_else (not b) LengthOutside (on_catalogue (parsed file) (added_to image))) (eq-eqb (length image) 128 l)
 
-      pub damaged : (why : Refusal) → told.Refused why ≡ judged (parsed file) → Writes (added (length area) file image) (written.Refused why) area area
+      pub damaged : (why : Refusal) → Err why ≡ judged (parsed file) → Writes (added (length area) file image) (Err why) area area
       damaged why e = refusing _ why (passed ∙ unread (added_to image) (parsed file) why e) area
 
-      pub goes_on_lem : {answer : Written} {after : List ℕ} → Writes (on_catalogue (parsed file) (added_to image)) answer area after → Writes (added (length area) file image) answer area after
-      goes_on_lem d = settle area passed d.0 d.1
+      pub goes_on_lem : {taken : List ℕ} → taken ≡ image → {answer : Result ℕ Refusal} {after : List ℕ}
+          → Writes (on_catalogue (parsed file) (added_to taken)) answer area after → Writes (added (length area) file image) answer area after
+      goes_on_lem same d = settle area (passed ∙ ap (λ (x : List ℕ). on_catalogue (parsed file) (added_to x)) (sym same)) d.0 d.1
 
--- What the walk over the fields and the search for the card told.
-parsed-if : (file : List ℕ) (r : Reading) (cards n : ℕ) → parsed file ≡ r → told.Sound cards n ≡ judged r → Parsed file cards n
-parsed-if file (catalogue fs) cards n q e =
-    let c : cards ≡ length (addresses_of fs) = cc in
-    record { those = fs; is_parsed = q; listed = c ∙ ap length (sym (addresses_parsed file fs q)); many = cc }
-parsed-if file (refused why) cards n q e = let z : ◌≡◌ {A = ℕ} 0 1 = cc in absurd (omega arith)
+-- What the walk over the fields told.
+parsed-if : (file : List ℕ) (r : Reading) (told : Counts) → parsed file ≡ r → Ok told ≡ judged r → Parsed file told.cards told.fields
+parsed-if file (catalogue fs) told q e =
+    let same : told ≡ counts (length (addresses_of fs)) (length fs) = cc in
+    record { those = fs; is_parsed = q; listed = ap (λ (c : Counts). c.cards) same ∙ ap length (sym (addresses_parsed file fs q)); many = ap (λ (c : Counts). c.fields) same }
+parsed-if file (refused why) told q e = let z : ◌≡◌ {A = ℕ} 0 1 = cc in absurd (omega arith)
 
-pub was_parsed_lem : (file : List ℕ) (cards n : ℕ) → told.Sound cards n ≡ judged (parsed file) → Parsed file cards n
-was_parsed_lem file cards n e = parsed-if file (parsed file) cards n refl e
-
-module _ (fs : List Field) (image : List ℕ) {address : ℕ} (q : address ≡ address_of (address_in image)) where
-  sought : seek_if (is_among address (addresses_of fs)) (card_place address fs) ≡ seek_if (is_among (address_of (address_in image)) (addresses_of fs)) (card_place (address_of (address_in image)) fs)
-  sought = ap (λ (x : ℕ). seek_if (is_among x (addresses_of fs)) (card_place x fs)) q
-
-  pub card_missing : Missing ≡ seek_if (is_among address (addresses_of fs)) (card_place address fs) → is_among (address_of (address_in image)) (addresses_of fs) ≡ false
-  card_missing e = missing_if (is_among (address_of (address_in image)) (addresses_of fs)) (card_place (address_of (address_in image)) fs) (e ∙ sought)
-
-  module _ {at : ℕ} (e : Behind at ≡ seek_if (is_among address (addresses_of fs)) (card_place address fs)) where
-    pub card-found : is_among (address_of (address_in image)) (addresses_of fs) ≡ true
-    card-found = (behind-if (is_among (address_of (address_in image)) (addresses_of fs)) (card_place (address_of (address_in image)) fs) at (e ∙ sought)).0
-
-    pub found-place : at ≡ card_place (address_of (address_in image)) fs
-    found-place = (behind-if (is_among (address_of (address_in image)) (addresses_of fs)) (card_place (address_of (address_in image)) fs) at (e ∙ sought)).1
+pub was_parsed_lem : (file : List ℕ) {told : Counts} → Ok told ≡ judged (parsed file) → Parsed file told.cards told.fields
+was_parsed_lem file {told} e = parsed-if file (parsed file) told refl e

@@ -1,4 +1,5 @@
 -- Laws of an addition, over fields and bytes alone.
+mod Added
 mod Chains
 mod Choice
 mod Insert

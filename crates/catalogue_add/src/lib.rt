@@ -13,8 +13,8 @@ ghost use Rattle.catalogue_rules.specs.PutContracts.{Writes, Adds};
 ghost use Rattle.catalogue_put.specs.Places.{card_place};
 ghost use Rattle.catalogue_add.specs.Taken.{Parsed};
 
-use catalogue_rules::{Judged, Seek, Written};
-use image_rules::{Checked, WordOffset};
+use catalogue_rules::Counts;
+use image_rules::WordOffset;
 use refusal::Refusal;
 
 // The node address of an image: words 00h to 02h.
@@ -28,94 +28,67 @@ pub fn address_of(image: &[u8]) -> u64
 }
 
 // A card's first version.
-fn add_card(file: &[u8], cards: usize, fields: usize, image: &[u8], out: &mut [u8]) -> Written
-    requires parsed { Parsed file.now cards fields }
+fn add_card(
+    file: &[u8],
+    counts: Counts,
+    image: &[u8; 128],
+    out: &mut [u8],
+) -> Result<usize, Refusal>
+    requires parsed { Parsed file.now counts.cards counts.fields }
     requires file_value { is_among (address_of (address_in image.now)) (addresses_of (fields_of file.now)) ≡ false }
-    requires image_len { (length image.now ≡ 128) × (length file.now + 145 ≤ length out.old) }
+    requires out_len { length file.now + 145 ≤ length out.old }
     ensures { Writes (on_catalogue (parsed file.now) (added_to image.now)) result out.old out.new }
 {
-    if (64 <= cards) | (65532 < fields) {
-        return Written::Refused(Refusal::NoPlace);
+    if (64 <= counts.cards) | (65532 < counts.fields) {
+        return Err(Refusal::NoPlace);
     }
     if catalogue_read::twice(file) {
-        return Written::Refused(Refusal::ListedTwice);
+        return Err(Refusal::ListedTwice);
     }
-    match image_check::check(image) {
-        Checked::Refused(why) => Written::Refused(why),
-        Checked::Sound {
-            node0: _,
-            node1: _,
-            node2: _,
-        } => Written::Bytes(write::with_card(file, fields, image, out)),
-    }
-}
-
-// A new version's number.
-fn next_number(last: u16) -> u16
-    requires { last < 65535 }
-    ensures { result ≡ last + 1 }
-{
-    last + 1
+    image_check::check(image)?;
+    Ok(write::with_card(file, counts.fields, image, out))
 }
 
 // One more version of the card whose fields begin at a place.
 fn add_version(
     file: &[u8],
     at: usize,
-    cards: usize,
-    fields: usize,
-    image: &[u8],
+    counts: Counts,
+    image: &[u8; 128],
     out: &mut [u8],
-) -> Written
-    requires parsed { Parsed file.now cards fields }
+) -> Result<usize, Refusal>
+    requires parsed { Parsed file.now counts.cards counts.fields }
     requires file_value { is_among (address_of (address_in image.now)) (addresses_of (fields_of file.now)) ≡ true }
     requires at_value { at ≡ card_place (address_of (address_in image.now)) (fields_of file.now) }
-    requires image_len { (length image.now ≡ 128) × (length file.now + 145 ≤ length out.old) }
+    requires out_len { length file.now + 145 ≤ length out.old }
     ensures { Writes (on_catalogue (parsed file.now) (added_to image.now)) result out.old out.new }
 {
     let versions = catalogue_put::versions(file, at);
     let last = catalogue_put::last_number(file, at);
-    if (64 < cards) | ((8 <= versions) | ((65535 <= last) | (65533 < fields))) {
-        return Written::Refused(Refusal::NoPlace);
+    if (64 < counts.cards) | ((8 <= versions) | ((65535 <= last) | (65533 < counts.fields))) {
+        return Err(Refusal::NoPlace);
     }
     if catalogue_read::twice(file) {
-        return Written::Refused(Refusal::ListedTwice);
+        return Err(Refusal::ListedTwice);
     }
-    match image_check::check(image) {
-        Checked::Refused(why) => Written::Refused(why),
-        Checked::Sound {
-            node0: _,
-            node1: _,
-            node2: _,
-        } => {
-            let place = catalogue_put::card_end(file, at);
-            let number = next_number(last);
-            Written::Bytes(write::with_version(file, place, number, fields, image, out))
-        }
-    }
+    image_check::check(image)?;
+    let place = catalogue_put::card_end(file, at);
+    Ok(write::with_version(file, place, last + 1, counts.fields, image, out))
 }
 
 // Adds a version of the image's card: its latest number plus 1, or 1 for a new card. 12, 2, 15, 16, 18, 19, then 8 to 10.
-pub fn add(file: &[u8], image: &[u8], out: &mut [u8]) -> Written
+pub fn add(file: &[u8], image: &[u8], out: &mut [u8]) -> Result<usize, Refusal>
     ensures { Adds file.now image.now result out.old out.new }
 {
-    if out.len() < 145 {
-        return Written::Refused(Refusal::ArgumentOutside);
+    if out.len() < 145 || out.len() - 145 < file.len() {
+        return Err(Refusal::ArgumentOutside);
     }
-    if out.len() - 145 < file.len() {
-        return Written::Refused(Refusal::ArgumentOutside);
-    }
-    if image.len() != 128 {
-        return Written::Refused(Refusal::LengthOutside);
-    }
-    match catalogue_read::parse(file) {
-        Judged::Refused(why) => Written::Refused(why),
-        Judged::Sound { cards, fields } => match catalogue_put::card_place(
-            file,
-            address_of(image),
-        ) {
-            Seek::Missing => add_card(file, cards, fields, image, out),
-            Seek::Behind(at) => add_version(file, at, cards, fields, image, out),
-        },
+    let Ok(image) = <&[u8; 128]>::try_from(image) else {
+        return Err(Refusal::LengthOutside);
+    };
+    let counts = catalogue_read::parse(file)?;
+    match catalogue_put::card_place(file, address_of(image)) {
+        None => add_card(file, counts, image, out),
+        Some(at) => add_version(file, at, counts, image, out),
     }
 }

@@ -7,9 +7,9 @@ ghost use Rattle.catalogue_rules.specs.Edit.{version_fields};
 ghost use Rattle.catalogue_rules.specs.Put.{put_at};
 
 // A card with one version before the count of a file that has so many fields before it.
-pub fn with_card(file: &[u8], fields: usize, image: &[u8], out: &mut [u8]) -> usize
+pub fn with_card(file: &[u8], fields: usize, image: &[u8; 128], out: &mut [u8]) -> usize
     requires in_bounds { (5 ≤ length file.now) × (length file.now + 145 ≤ length out.old) }
-    requires image_len { (length image.now ≡ 128) × (fields < 65533) }
+    requires counted { fields < 65533 }
     ensures { (result ≡ length file.now + 145) × (out.new ≡ put_at out.old 0 (take (length file.now - 5) file.now ++ (bytes_of (field 1 (address_in image.now) ∷ version_fields 1 image.now) ++ bytes_of (count_field (fields + 3) ∷ [])))) }
 {
     let end = file.len() - 5;
@@ -24,11 +24,11 @@ pub fn with_version(
     place: usize,
     number: u16,
     fields: usize,
-    image: &[u8],
+    image: &[u8; 128],
     out: &mut [u8],
 ) -> usize
     requires place_in_bounds { (place + 5 ≤ length file.now) × (length file.now + 145 ≤ length out.old) }
-    requires image_len { (length image.now ≡ 128) × (fields < 65534) }
+    requires counted { fields < 65534 }
     ensures { (result ≡ length file.now + 136) × (out.new ≡ put_at out.old 0 (take place file.now ++ (bytes_of (version_fields number image.now) ++ (take (length file.now - 5 - place) (drop place file.now) ++ bytes_of (count_field (fields + 2) ∷ []))))) }
 {
     let end = file.len() - 5;

@@ -46,9 +46,6 @@ pub put_first-requires : goal.put_first-requires
 put_first-requires c =
     (c.requires, c.if-f.false, c.in-0.is, left c.args.size _ c.args.f c.args.ram.now c.args.dir.now c.requires.packed c.used-used.ensures c.if-size-used.false)
 
-pub returns-in-0 : goal.returns-in-0
-returns-in-0 c = c.put_first.ensures
-
 pub returns-in-1 : goal.returns-in-1
 returns-in-1 c =
     let s = c.args in

@@ -7,12 +7,6 @@ use Rattle.store.proofs.append_byte.Goals as goal
 pub overflow_sub-last : goal.overflow_sub-last
 overflow_sub-last c = omega (arith, asked c.args.a c.args.count c.args.at c.args.ram.now c.args.dir.now c.requires.sound c.requires.fact)
 
-pub bounds-ram-at : goal.bounds-ram-at
-bounds-ram-at c = omega (arith, asked c.args.a c.args.count c.args.at c.args.ram.now c.args.dir.now c.requires.sound c.requires.fact)
-
-pub offset_bounds-dir-last : goal.offset_bounds-dir-last
-offset_bounds-dir-last c = omega (arith, asked c.args.a c.args.count c.args.at c.args.ram.now c.args.dir.now c.requires.sound c.requires.fact)
-
 pub bounds-dir-last : goal.bounds-dir-last
 bounds-dir-last c = omega (arith, asked c.args.a c.args.count c.args.at c.args.ram.now c.args.dir.now c.requires.sound c.requires.fact)
 

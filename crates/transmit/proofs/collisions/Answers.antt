@@ -14,9 +14,6 @@ pub leave_first-fifo-requires : goal.leave_first-fifo-requires
 leave_first-fifo-requires c =
     let s = c.args in (fifo_holds s.size s.t s.ram.now s.dir.now c.requires.0, c.requires.1)
 
-pub collisions-outcomes-requires : goal.collisions-outcomes-requires
-collisions-outcomes-requires c = c.requires.0.stacked
-
 pub returns : goal.returns
 unfolding collisions
 returns c =

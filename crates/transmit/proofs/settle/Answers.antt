@@ -18,7 +18,3 @@ returns-then-s c =
 
 pub fifo_free-free-requires : goal.fifo_free-free-requires
 fifo_free-free-requires c = unsettled_holds c.args.size c.args.t c.args.ram.now c.args.dir.now c.requires
-
-pub returns : goal.returns
-returns c =
-    step-reports c.args.size c.args.t _ c.args.ram.now c.args.dir.now _ c.requires.packed (rw c.fifo_free-free.ensures at c.settle_available.ensures)

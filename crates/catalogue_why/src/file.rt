@@ -1,32 +1,24 @@
 // Where a catalogue's file is wrong.
-ghost use Rattle.std.specs.Prelude.{◌≤◌, length};
+ghost use Rattle.std.specs.Prelude.{◌≤◌, length, IfSome};
 
 use crate::step;
-use catalogue_rules::{Judged, Seek};
+use catalogue_rules::ADDRESS;
+use refusal::Refusal;
 
 // The place of the first field that is cut, or the file's length where it ends between two fields.
 pub fn end(file: &[u8]) -> usize
     ensures { result ≤ length file.now }
 {
     let mut at = 0;
-    loop {
-        let field = step::at(file, at);
-        if field.size == 0 {
-            return at;
-        }
-        at = at + field.size;
+    while let Some(step) = step::at(file, at) {
+        at = step.next;
     }
+    at
 }
 
 // Whether nothing is wrong but that the rest is missing.
 fn is_only_cut(part: &[u8]) -> bool {
-    match catalogue_read::check(part) {
-        Judged::Sound {
-            cards: _,
-            fields: _,
-        } => false,
-        Judged::Refused(why) => refusal::number(why) == 16,
-    }
+    matches!(catalogue_read::check(part), Err(Refusal::FileEndsEarly))
 }
 
 // The place of the field that ends at a place.
@@ -34,21 +26,18 @@ fn place_of(file: &[u8], end: usize) -> usize
     ensures { result ≤ length file.now }
 {
     let mut at = 0;
-    loop {
-        let field = step::at(file, at);
-        if field.size == 0 {
-            return at;
+    while let Some(step) = step::at(file, at) {
+        if end <= step.next {
+            break;
         }
-        let next = at + field.size;
-        if end <= next {
-            return at;
-        }
-        at = next;
+        at = step.next;
     }
+    at
 }
 
 // The place of the damaged field, or of the count where that is wrong, out of turn or not the last. Up to the end of
 // that field every beginning of the file is only cut, and none that is longer; so halving finds it.
+// By hand, since `partition_point` asks of a slice's items, and here beginnings are asked of.
 pub fn damage(file: &[u8]) -> usize
     ensures { result ≤ length file.now }
 {
@@ -72,41 +61,20 @@ pub struct Again {
     pub at: usize,
 }
 
-// Whether a field is an address that is listed before it.
-fn comes_again(file: &[u8], at: usize, tag: u8, address: u64) -> bool
-    requires { at ≤ length file.now }
-{
-    if tag == 1 {
-        return catalogue_read::listed(&file[..at], 0, address);
-    }
-    false
-}
-
 // The first address that was listed before.
-pub fn repeated(file: &[u8]) -> Again
-    ensures { result.at ≤ length file.now }
+pub fn repeated(file: &[u8]) -> Option<Again>
+    ensures { IfSome result (λ again. again.at ≤ length file.now) }
 {
     let mut at = 0;
-    loop {
-        let field = step::at(file, at);
-        if field.size == 0 {
-            return Again { address: 0, at };
-        }
+    while let Some(step) = step::at(file, at) {
+        let field = step.field;
         let address = catalogue_read::address_at(file, field.start, field.len);
-        if comes_again(file, at, field.tag, address) {
-            return Again { address, at };
+        if field.tag == ADDRESS && catalogue_read::listed(&file[..at], 0, address) {
+            return Some(Again { address, at });
         }
-        at = at + field.size;
+        at = step.next;
     }
-}
-
-fn one_if(card: bool) -> usize
-    ensures { result ≤ 1 }
-{
-    if card {
-        return 1;
-    }
-    0
+    None
 }
 
 // How many cards are listed.
@@ -115,14 +83,11 @@ pub fn cards(file: &[u8]) -> usize
 {
     let mut at = 0;
     let mut n = 0;
-    loop {
-        let field = step::at(file, at);
-        if field.size == 0 {
-            return n;
-        }
-        n = n + one_if(field.tag == 1);
-        at = at + field.size;
+    while let Some(step) = step::at(file, at) {
+        n += usize::from(step.field.tag == ADDRESS);
+        at = step.next;
     }
+    n
 }
 
 // What there is no room for.
@@ -137,20 +102,9 @@ pub enum Full {
 // Why a version of a card does not go in: a ninth version before a number past the last, and both before the count.
 pub fn no_room(file: &[u8], address: u64) -> Full {
     match catalogue_put::card_place(file, address) {
-        Seek::Missing => {
-            if 64 <= cards(file) {
-                return Full::Cards;
-            }
-            Full::Fields
-        }
-        Seek::Behind(at) => {
-            if 8 <= catalogue_put::versions(file, at) {
-                return Full::Versions;
-            }
-            if 65535 <= catalogue_put::last_number(file, at) {
-                return Full::Numbers;
-            }
-            Full::Fields
-        }
+        None if 64 <= cards(file) => Full::Cards,
+        Some(at) if 8 <= catalogue_put::versions(file, at) => Full::Versions,
+        Some(at) if 65535 <= catalogue_put::last_number(file, at) => Full::Numbers,
+        _ => Full::Fields,
     }
 }

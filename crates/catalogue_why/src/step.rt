@@ -1,34 +1,22 @@
-// A field at a time, in numbers that a loop can go by.
-ghost use Rattle.std.specs.Prelude.{◌+◌, ◌≤◌, length};
+// A field at a time, with the place behind it.
+ghost use Rattle.std.specs.Prelude.{◌<◌, ◌≤◌, length, IfSome};
 
 use catalogue_rules::Found;
 
-// A field, and the bytes that it takes with the three of its head; none where the file ends first.
+// A field, and the place behind it.
 #[derive(Clone, Copy)]
 pub struct Step {
-    pub size: usize,
-    pub tag: u8,
-    pub start: usize,
-    pub len: usize,
+    pub field: Found,
+    pub next: usize,
 }
 
-// The field at a place.
-pub fn at(file: &[u8], at: usize) -> Step
-    requires { at ≤ length file.now }
-    ensures { at + result.size ≤ length file.now }
+// The field at a place; none where the file ends first.
+pub fn at(file: &[u8], at: usize) -> Option<Step>
+    ensures { IfSome result (λ step. (at < step.next) × (step.next ≤ length file.now)) }
 {
-    match catalogue_read::field_at(file, at) {
-        Found::Cut => Step {
-            size: 0,
-            tag: 0,
-            start: at,
-            len: 0,
-        },
-        Found::Whole { tag, start, len } => Step {
-            size: 3 + len,
-            tag,
-            start,
-            len,
-        },
-    }
+    let field = catalogue_read::field_at(file, at)?;
+    Some(Step {
+        field,
+        next: field.start + field.len,
+    })
 }

@@ -1,7 +1,5 @@
 -- `file::damage` is safe and ends: what lies between the two ends shrinks by half.
--- Assumes nothing.
-use Prim.Native.Nat.{◌-◌, ◌≤◌}
-use lib.ListN.{length}
+use Rattle.std.proofs.Common.{length, ◌-◌, ◌≤◌}
 use Rattle.catalogue_why.proofs.file.damage.Given as goal
 
 abbrev pub invariant-loop-low : goal.invariant-loop-low

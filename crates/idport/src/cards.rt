@@ -24,7 +24,7 @@ pub fn is_port(port: u16) -> bool
 pub fn names(tag: u8, base: u8) -> bool
     ensures { result ≡ naming tag base }
 {
-    (1 <= tag) & (tag <= 7) & (base <= 31)
+    (1..=7).contains(&tag) & (base <= 31)
 }
 
 // x of port 1x0h.

@@ -90,7 +90,8 @@ fn pad(ram: &[u8], dir: &[u16], size: usize, count: usize) -> u16
         return 0;
     }
     let w = dir[0];
-    if w < COMING {
+    let ended = w < COMING;
+    if ended {
         let n = w % 2048;
         return (n + 3) / 4 * 4 - n;
     }
@@ -123,8 +124,8 @@ pub fn read_data(ram: &[u8], dir: &[u16], size: usize, mut r: Receive) -> Got
             receive: r,
         };
     }
-    let left = left(ram, dir, size, r);
-    if left < 2 {
+    let beyond = left(ram, dir, size, r) < 2;
+    if beyond {
         r.receiver.failed = true;
         return Got {
             word: 0,

@@ -10,12 +10,12 @@ use Rattle.receive.proofs.reading.pad.Goals as goal
 pub returns-then-count-eq0 : goal.returns-then-count-eq0
 returns-then-count-eq0 c = (rw (none _ _ _ _ c.if-count-eq0.true), lit< tt)
 
-pub returns-then-w-lt-COMING : goal.returns-then-w-lt-COMING
-returns-then-w-lt-COMING c =
+pub returns-then-ended : goal.returns-then-ended
+returns-then-ended c =
     let s = c.args in
-    (rw (pad_some s.size s.count s.ram.now s.dir.now c.requires c.if-count-eq0.false, lt-leb 32768 (get_or s.dir.now 0 0) (omega (arith, c.if-w-lt-COMING.true))), omega arith)
+    (rw (pad_some s.size s.count s.ram.now s.dir.now c.requires c.if-count-eq0.false, lt-leb 32768 (get_or s.dir.now 0 0) (omega (arith, c.if-ended.true))), omega arith)
 
 pub returns : goal.returns
 returns c =
     let s = c.args in
-    (rw (pad_some s.size s.count s.ram.now s.dir.now c.requires c.if-count-eq0.false, le-leb 32768 (get_or s.dir.now 0 0) (omega (arith, c.if-w-lt-COMING.false))), lit< tt)
+    (rw (pad_some s.size s.count s.ram.now s.dir.now c.requires c.if-count-eq0.false, le-leb 32768 (get_or s.dir.now 0 0) (omega (arith, c.if-ended.false))), lit< tt)

@@ -17,36 +17,36 @@ returns-then-r c =
     let s = c.args in
     (rw c.if-r.true, step_same s.size _ s.ram.now s.dir.now _ c.requires.packed (rw c.if-r.true))
 
-pub returns-then-left-lt2 : goal.returns-then-left-lt2
+pub returns-then-beyond : goal.returns-then-beyond
 unfolding data_word after_read
-returns-then-left-lt2 c =
+returns-then-beyond c =
     let s = c.args in
-    let l = c.left-left in
-    let t = (sym (ap (λ (v : ℤ). lt_z v (pos 2)) (back l.result l.type_inv ∙ l.ensures)) ∙ c.if-left-lt2.true) in
+    let l = c.left-beyond in
+    let t = (sym (ap (λ (v : ℤ). lt_z v (pos 2)) (back l.result l.type_inv ∙ l.ensures)) ∙ c.if-beyond.true) in
     (rw (c.if-r.false, t), step_same s.size _ s.ram.now s.dir.now _ c.requires.packed (rw (c.if-r.false, t)))
 
 pub overflow_add-r : goal.overflow_add-r
 overflow_add-r c =
     let s = c.args in
-    let l = c.left-left in
-    omega (arith, (ltb-false _ _ (sym (beyond_is ((rx_of c.args.size c.args.r c.args.ram.now c.args.dir.now))) ∙ ((sym (ap (λ (v : ℤ). lt_z v (pos 2)) (back l.result l.type_inv ∙ l.ensures)) ∙ c.if-left-lt2.false)))), readable-small s.size s.r.frames s.ram.now s.dir.now c.requires.packed)
+    let l = c.left-beyond in
+    omega (arith, (ltb-false _ _ (sym (beyond_is ((rx_of c.args.size c.args.r c.args.ram.now c.args.dir.now))) ∙ ((sym (ap (λ (v : ℤ). lt_z v (pos 2)) (back l.result l.type_inv ∙ l.ensures)) ∙ c.if-beyond.false)))), readable-small s.size s.r.frames s.ram.now s.dir.now c.requires.packed)
 
 pub oldest_byte-low-requires : goal.oldest_byte-low-requires
 oldest_byte-low-requires c =
     let s = c.args in
-    let l = c.left-left in
-    (c.requires.packed, readable_there s.size s.r.frames s.r.receiver.read s.ram.now s.dir.now ((ltb-false _ _ (sym (beyond_is ((rx_of c.args.size c.args.r c.args.ram.now c.args.dir.now))) ∙ ((sym (ap (λ (v : ℤ). lt_z v (pos 2)) (back l.result l.type_inv ∙ l.ensures)) ∙ c.if-left-lt2.false))))))
+    let l = c.left-beyond in
+    (c.requires.packed, readable_there s.size s.r.frames s.r.receiver.read s.ram.now s.dir.now ((ltb-false _ _ (sym (beyond_is ((rx_of c.args.size c.args.r c.args.ram.now c.args.dir.now))) ∙ ((sym (ap (λ (v : ℤ). lt_z v (pos 2)) (back l.result l.type_inv ∙ l.ensures)) ∙ c.if-beyond.false))))))
 
 pub oldest_byte-high-requires : goal.oldest_byte-high-requires
 oldest_byte-high-requires c =
     let s = c.args in
-    let l = c.left-left in
-    (c.requires.packed, readable_there s.size s.r.frames s.r.receiver.read s.ram.now s.dir.now ((ltb-false _ _ (sym (beyond_is ((rx_of c.args.size c.args.r c.args.ram.now c.args.dir.now))) ∙ ((sym (ap (λ (v : ℤ). lt_z v (pos 2)) (back l.result l.type_inv ∙ l.ensures)) ∙ c.if-left-lt2.false))))))
+    let l = c.left-beyond in
+    (c.requires.packed, readable_there s.size s.r.frames s.r.receiver.read s.ram.now s.dir.now ((ltb-false _ _ (sym (beyond_is ((rx_of c.args.size c.args.r c.args.ram.now c.args.dir.now))) ∙ ((sym (ap (λ (v : ℤ). lt_z v (pos 2)) (back l.result l.type_inv ∙ l.ensures)) ∙ c.if-beyond.false))))))
 
 pub returns : goal.returns
 unfolding data_word after_read
 returns c =
     let s = c.args in
-    let l = c.left-left in
-    let t = (sym (ap (λ (v : ℤ). lt_z v (pos 2)) (back l.result l.type_inv ∙ l.ensures)) ∙ c.if-left-lt2.false) in
+    let l = c.left-beyond in
+    let t = (sym (ap (λ (v : ℤ). lt_z v (pos 2)) (back l.result l.type_inv ∙ l.ensures)) ∙ c.if-beyond.false) in
     (rw (c.if-r.false, t) (omega (arith, c.oldest_byte-low.ensures.0, c.oldest_byte-high.ensures.0)), step_same s.size _ s.ram.now s.dir.now _ c.requires.packed (rw (c.if-r.false, t)))

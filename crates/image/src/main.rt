@@ -5,7 +5,5 @@ fn main(rt: HostRuntime) {
     let mut room = [0u8; 129];
     let n = host::read_full(&mut rt.stdin(), &mut room);
     let said = image_check::judged(&room[..n]);
-    let text = said.bytes;
-    let len = said.len;
-    let _ = rt.write_all(&text[..len]);
+    let _ = rt.write_all(said.line());
 }

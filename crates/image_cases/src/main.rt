@@ -13,11 +13,9 @@ fn tell(rt: &HostRuntime, path: &[u8]) {
     let mut room = [0u8; 129];
     let n = host::read_full(&mut file, &mut room);
     let said = image_check::judged(&room[..n]);
-    let text = said.bytes;
-    let len = said.len;
     let _ = rt.write_all(path);
     let _ = rt.write_all(b": ");
-    let _ = rt.write_all(&text[..len]);
+    let _ = rt.write_all(said.line());
 }
 
 // The line of the file that argument i names.

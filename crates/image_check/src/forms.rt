@@ -41,14 +41,14 @@ pub fn refused_line(n: u8) -> Text
 }
 
 // The text with the four hex digits of a word put in from a place on.
-fn with_hex(text: [u8; 22], at: usize, word: u16) -> [u8; 22]
+#[tactic(auto, unfolding(bench_rules::specs::Text::digit_of))]
+fn with_hex(mut text: [u8; 22], at: usize, word: u16) -> [u8; 22]
     requires { at + 4 ≤ 22 }
     ensures { result ≡ with_hex text at word }
 {
-    let mut bytes = text;
-    bytes[at] = hex_text::digit(word / 4096);
-    bytes[at + 1] = hex_text::digit(word / 256 % 16);
-    bytes[at + 2] = hex_text::digit(word / 16 % 16);
-    bytes[at + 3] = hex_text::digit(word % 16);
-    bytes
+    text[at] = hex_text::digit(word / 4096);
+    text[at + 1] = hex_text::digit(word / 256 % 16);
+    text[at + 2] = hex_text::digit(word / 16 % 16);
+    text[at + 3] = hex_text::digit(word % 16);
+    text
 }

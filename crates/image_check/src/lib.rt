@@ -33,6 +33,7 @@ pub fn byte_at(image: &[u8], at: BytePlace) -> u8
 }
 
 // The word at an offset.
+#[tactic(auto, unfolding(image_rules::specs::Image::word_at))]
 pub fn word_at(image: &[u8], w: WordOffset) -> u16
     ensures { contract.WordAt image.now w result }
 {
@@ -53,8 +54,8 @@ pub fn checksum(image: &[u8]) -> u16
     for w in 0x00..=0x0e {
         let word = word_at(image, WordOffset(w));
         match w {
-            0x08 | 0x09 | 0x0d => low = low ^ word,
-            _ => high = high ^ word,
+            0x08 | 0x09 | 0x0d => low ^= word,
+            _ => high ^= word,
         }
     }
     pair(folded(high), folded(low))
@@ -70,12 +71,12 @@ pub fn secondary(image: &[u8]) -> u16
     for w in 0x10..=0x16 {
         let word = word_at(image, WordOffset(w));
         match w {
-            0x10 | 0x11 | 0x12 => vital = vital ^ word,
-            _ => configurable = configurable ^ word,
+            0x10 | 0x11 | 0x12 => vital ^= word,
+            _ => configurable ^= word,
         }
     }
     for w in 0x20..=0x3f {
-        vital = vital ^ word_at(image, WordOffset(w));
+        vital ^= word_at(image, WordOffset(w));
     }
     pair(folded(vital), folded(configurable))
 }
@@ -88,6 +89,7 @@ fn folded(word: u16) -> u8
 }
 
 // Checks an image of any length. The first of 2, 8, 9 and 10 that is due is the answer.
+#[tactic(auto, unfolding(image_rules::specs::Image::check_of))]
 pub fn check(image: &[u8]) -> Result<Node, Refusal>
     ensures { contract.Check image.now result }
 {

@@ -1,5 +1,6 @@
 #![tactic(auto)]
 // The EEPROM image: its words and bytes, the checksums, the check, and the line that the image program prints.
+ghost use Rattle.std.specs.Prelude.{◌≡◌, ◌≤◌, take};
 
 // Where a word stands in the EEPROM, counted in words.
 #[derive(Clone, Copy)]
@@ -22,4 +23,14 @@ pub struct Node {
 pub struct Text {
     pub bytes: [u8; 22],
     pub len: usize,
+    ghost within: { len ≤ 22 },
+}
+
+impl Text {
+    // Its bytes.
+    pub fn line(&self) -> &[u8]
+        ensures { result.now ≡ take self.now.len self.now.bytes }
+    {
+        &self.bytes[..self.len]
+    }
 }

@@ -1,12 +1,11 @@
 #![tactic(auto)]
 // The driver's public calls: open, send, service and hand_up. Each tests the state it is handed, and no refusal changes anything.
-ghost use Rattle.std.specs.Prelude.{◌≡◌, length};
-ghost use Rattle.driver_rules.specs.declared.Answer.TheVariants.{Refused};
+ghost use Rattle.std.specs.Prelude.{◌≡◌, length, Err};
 ghost use Rattle.driver_rules.specs.Calls.{sound_state, Opens, Sends, Services};
 ghost use Rattle.driver_rules.specs.HandUp.{HandsUp};
 
 use card_rules::Card;
-use driver_rules::{Answer, Driver, OpenAnswer, Opened, Sent, Serviced};
+use driver_rules::{After, Driver, Serviced};
 use refusal::Refusal;
 
 // The soundness of card and driver together.
@@ -14,9 +13,7 @@ fn is_sound(ram: &[u8], dir: &[u16], c: Card, d: Driver) -> bool
     requires { (length ram.now ≡ 8192) × (length dir.now ≡ 1110) }
     ensures { result ≡ sound_state c ram.now dir.now d }
 {
-    let card = regs::is_sound(ram, dir, c);
-    let driver = judge::driver_sound(d);
-    card & driver
+    regs::is_sound(ram, dir, c) & judge::driver_sound(d)
 }
 
 // Open, with the address as words 00h-02h.
@@ -28,21 +25,27 @@ pub fn open(
     w0: u16,
     w1: u16,
     w2: u16,
-) -> Opened
+) -> After<()>
     ensures { Opens c ram.old dir.old d w0 w1 w2 result ram.new dir.new }
 {
     if !is_sound(ram, dir, c, d) {
-        return Opened {
+        return After {
             card: c,
             driver: d,
-            answer: OpenAnswer::Refused(Refusal::StateUnsound),
+            answer: Err(Refusal::StateUnsound),
         };
     }
     opening::open(ram, dir, c, d, w0, w1, w2)
 }
 
 // Send a packet, without its check bytes.
-pub fn send(ram: &mut [u8; 8192], dir: &mut [u16; 1110], c: Card, d: Driver, packet: &[u8]) -> Sent
+pub fn send(
+    ram: &mut [u8; 8192],
+    dir: &mut [u16; 1110],
+    c: Card,
+    d: Driver,
+    packet: &[u8],
+) -> After<u16>
     ensures { Sends c ram.old dir.old d packet.now result ram.new dir.new }
 {
     if !is_sound(ram, dir, c, d) {
@@ -53,12 +56,12 @@ pub fn send(ram: &mut [u8; 8192], dir: &mut [u16; 1110], c: Card, d: Driver, pac
 
 // A service refused before its first access.
 fn refused(c: Card, d: Driver, why: Refusal) -> Serviced
-    ensures { result ≡ record { card = c; driver = d; answer = Refused why; used = 0 } }
+    ensures { result ≡ record { card = c; driver = d; answer = Err why; used = 0 } }
 {
     Serviced {
         card: c,
         driver: d,
-        answer: Answer::Refused(why),
+        answer: Err(why),
         used: 0,
     }
 }
@@ -87,21 +90,21 @@ pub fn service(
     if frame.len() < judge::sizes::FRAME_AREA {
         return refused(c, d, Refusal::AreaShort);
     }
-    service::serve(ram, dir, c, d, ahead, frame, budget as usize)
+    service::serve(ram, dir, c, d, ahead, frame, usize::from(budget))
 }
 
 // The part of the areas that a frame of n bytes was handed up in; empty if its area does not hold n bytes.
 pub fn hand_up<'a>(ahead: &'a [u8], frame: &'a [u8], n: usize) -> &'a [u8]
     ensures { HandsUp ahead.entry frame.entry n result }
 {
-    if n <= judge::sizes::LOOKAHEAD_AREA {
-        if n <= ahead.len() {
-            return &ahead[..n];
-        }
-        return &ahead[..0];
+    let area = if n <= judge::sizes::LOOKAHEAD_AREA {
+        ahead
+    } else {
+        frame
+    };
+    if n <= area.len() {
+        &area[..n]
+    } else {
+        &area[..0]
     }
-    if n <= frame.len() {
-        return &frame[..n];
-    }
-    &frame[..0]
 }

@@ -28,4 +28,6 @@ serve-requires c =
 
 pub returns : goal.returns
 returns c =
-    let A = c.args in ways.service-run A.c A.ram.now A.dir.now A.d A.budget A.ahead.now A.frame.now (sym c.is_sound.ensures ∙ c.if-not-is_sound.false) (not-false _ c.if-not-d.false) (ways.both-large A.ahead.now A.frame.now (omega arith) c.if-frame-lt-FRAME_AREA.false) _ _ _ _ _ c.serve.ensures.0 c.serve.ensures.1.0 c.serve.ensures.1.1
+    let A = c.args in
+    let e = rw c.from.ensures at c.serve.ensures in
+    ways.service-run A.c A.ram.now A.dir.now A.d A.budget A.ahead.now A.frame.now (sym c.is_sound.ensures ∙ c.if-not-is_sound.false) (not-false _ c.if-not-d.false) (ways.both-large A.ahead.now A.frame.now (omega arith) c.if-frame-lt-FRAME_AREA.false) _ _ _ _ _ e.0 e.1.0 e.1.1

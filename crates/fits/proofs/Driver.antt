@@ -1,8 +1,10 @@
 -- A contract of the driver fixes answer, driver, count and areas by the run of the call's tree; the end is the run's, or what came in where the call is refused. Assumes nothing.
+use Rattle.std.specs.Prelude.{Result, Ok, Err, ⊤}
 use mathlib.Core.Path.{◌≡◌, refl, sym, ap, subst⁻¹, ◌∙◌}
 use mathlib.Core.Bool.{Bool, true, false, ◌&&◌}
 use mathlib.Core.List.{List}
 use Prim.Native.Nat.{ℕ}
+use Rattle.refusal.specs.declared.Refusal.{Refusal}
 use Rattle.refusal.specs.declared.Refusal.TheVariants.{CardUnfit}
 use Rattle.bits.proofs.Tests.{by_test, never}
 use Rattle.card_rules.specs.declared.Card.{Card}
@@ -10,18 +12,12 @@ use Rattle.card_rules.specs.Adapter.{Adapter}
 use Rattle.card_rules.specs.View.{view, Stands}
 use Rattle.driver_rules.specs.declared.Driver.{Driver}
 use Rattle.driver_rules.specs.Talk.{Talk, Ran, run}
-use Rattle.driver_rules.specs.declared.Answer.{Answer}
-use Rattle.driver_rules.specs.declared.Answer.TheVariants as serving
+use Rattle.driver_rules.specs.declared.Item.{Item}
 use Rattle.driver_rules.specs.Items.{Serving}
 use Rattle.driver_rules.specs.declared.Serviced.{Serviced}
-use Rattle.driver_rules.specs.declared.OpenAnswer.{OpenAnswer}
-use Rattle.driver_rules.specs.declared.OpenAnswer.TheVariants as opening
 use Rattle.driver_rules.specs.Open as opens
-use Rattle.driver_rules.specs.declared.Opened.{Opened}
-use Rattle.driver_rules.specs.declared.SendAnswer.{SendAnswer}
-use Rattle.driver_rules.specs.declared.SendAnswer.TheVariants as sending
+use Rattle.driver_rules.specs.declared.After.{After}
 use Rattle.driver_rules.specs.Send as sends
-use Rattle.driver_rules.specs.declared.Sent.{Sent}
 use Rattle.driver_rules.specs.Paper.{open_paper, send_paper, service_paper}
 use Rattle.driver_rules.specs.Calls.{sound_state, large, service_call, Opens, Sends, Services}
 use Rattle.driver_rules.proofs.Ways.{begun-look, five_keeps}
@@ -45,18 +41,18 @@ module _ (c : Card) (ram dir : List ℕ) (a : Adapter) (e e' : End) where
   same_ends true t k t' k' = let same : e ≡ e' = kept_same (k refl) (k' refl) in record { shows = ap shown same; whole = λ _. same }
   same_ends false t k t' k' = record { shows = (t refl).shows ∙ sym (t' refl).shows; whole = λ y. never y }
 
-open_refused : (x : OpenAnswer) → is_refused (open_paper x) ≡ opens.refusing x
-open_refused opening.Done = refl
-open_refused (opening.Refused why) = refl
+open_refused : (x : Result ⊤ Refusal) → is_refused (open_paper x) ≡ opens.refusing x
+open_refused (Ok _) = refl
+open_refused (Err why) = refl
 
-send-refused : (x : SendAnswer) → is_refused (send_paper x) ≡ sends.refusing x
-send-refused (sending.Ticket n) = refl
-send-refused (sending.Refused why) = refl
+send-refused : (x : Result ℕ Refusal) → is_refused (send_paper x) ≡ sends.refusing x
+send-refused (Ok n) = refl
+send-refused (Err why) = refl
 
 -- ---- a service that is begun is refused 5 or goes short of budget; it has no other refusal
 
 abbrev Fivefold : Serving → Type 0
-Fivefold x = (used : ℕ) → is_refused (service_paper x.answer used) ≡ true → x.answer ≡ serving.Refused CardUnfit
+Fivefold x = (used : ℕ) → is_refused (service_paper x.answer used) ≡ true → x.answer ≡ Err CardUnfit
 
 five_only : Ways Fivefold
 five_only =
@@ -72,7 +68,7 @@ five_only =
 -- ---- the calls
 
 module _ (c : Card) (ram dir : List ℕ) (d : Driver) where
-  same-opened : (w₀ w₁ w₂ : ℕ) (r r' : With Opened) → Opens c ram dir d w₀ w₁ w₂ r.result r.ram r.dir → Opens c ram dir d w₀ w₁ w₂ r'.result r'.ram r'.dir → SameLeft (opened r) (opened r')
+  same-opened : (w₀ w₁ w₂ : ℕ) (r r' : With (After ⊤)) → Opens c ram dir d w₀ w₁ w₂ r.result r.ram r.dir → Opens c ram dir d w₀ w₁ w₂ r'.result r'.ram r'.dir → SameLeft (opened r) (opened r')
   same-opened w₀ w₁ w₂ r r' k k' =
       let x : r.result.answer ≡ r'.result.answer = k.answer ∙ sym k'.answer in
       let b : is_refused (open_paper r.result.answer) ≡ opens.refusing r.result.answer = open_refused r.result.answer in
@@ -83,7 +79,7 @@ module _ (c : Card) (ram dir : List ℕ) (d : Driver) where
         ends = same_ends c ram dir _ (opened r).end (opened r').end _ (λ y. k.taken (sym b ∙ y)) (λ y. k.kept (sym b ∙ y)) (λ y. k'.taken (sym b' ∙ y)) (λ y. k'.kept (sym b' ∙ y));
       }
 
-  same_sent : (packet : List ℕ) (r r' : With Sent) → Sends c ram dir d packet r.result r.ram r.dir → Sends c ram dir d packet r'.result r'.ram r'.dir → SameLeft (sent r) (sent r')
+  same_sent : (packet : List ℕ) (r r' : With (After ℕ)) → Sends c ram dir d packet r.result r.ram r.dir → Sends c ram dir d packet r'.result r'.ram r'.dir → SameLeft (sent r) (sent r')
   same_sent packet r r' k k' =
       let x : r.result.answer ≡ r'.result.answer = k.answer ∙ sym k'.answer in
       let b : is_refused (send_paper r.result.answer) ≡ sends.refusing r.result.answer = send-refused r.result.answer in
@@ -109,7 +105,7 @@ module _ (c : Card) (ram dir : List ℕ) (d : Driver) where
         subst⁻¹ (λ (t : Talk Serving). Fivefold (run t (view c ram dir)).answer)
         (begun-look (sound_state c ram dir d) (large look frame) d budget y) (of_look Fivefold five_only budget d (view c ram dir))
 
-    keeps : (r : WithAreas Serviced) → Serves r → begun ≡ true → R.answer.answer ≡ serving.Refused CardUnfit → Keeps c ram dir (served r).end
+    keeps : (r : WithAreas Serviced) → Serves r → begun ≡ true → R.answer.answer ≡ Err CardUnfit → Keeps c ram dir (served r).end
     keeps r = five_keeps c ram dir d budget look frame r.result r.ram r.dir r.look r.frame
 
     same-served : (r r' : WithAreas Serviced) → Serves r → Serves r' → SameLeft (served r) (served r')
@@ -124,7 +120,7 @@ module _ (c : Card) (ram dir : List ℕ) (d : Driver) where
               (λ y. record {
                 shows = (k.taken y).shows ∙ sym (k'.taken y).shows;
                 whole = λ n.
-                    let five : R.answer.answer ≡ serving.Refused CardUnfit = unfit-only y r.result.used (ap (λ (z : Answer). is_refused (service_paper z r.result.used)) (sym k.answer) ∙ n) in
+                    let five : R.answer.answer ≡ Err CardUnfit = unfit-only y r.result.used (ap (λ (z : Result Item Refusal). is_refused (service_paper z r.result.used)) (sym k.answer) ∙ n) in
                     kept_same c ram dir (view c ram dir) (served r).end (served r').end (keeps r k y five) (keeps r' k' y five);
               })
               (λ n.

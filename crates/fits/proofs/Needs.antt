@@ -1,4 +1,5 @@
 -- A look is short exactly where its budget is less than what is needed: access by access, over the tree. `access` stays shut. Assumes nothing.
+use Rattle.std.specs.Prelude.{Result, Ok, Err}
 use mathlib.Core.Path.{◌≡◌, refl, sym, ap, ◌∙◌}
 use mathlib.Core.Logic.{◌↔◌}
 use mathlib.Core.Bool.{Bool, true, false, cond, ◌&&◌, ◌||◌}
@@ -7,6 +8,7 @@ use Prim.Native.Nat.{ℕ, zero, suc, ◌+◌, ◌<◌, ◌≤◌}
 use native.Mathlib.Omega.{arith}
 use borrow.Author.Tests.{lt-ltb, le-ltb, ltb-true, ltb-false}
 use lib.Dec.{ltb, eqb}
+use Rattle.refusal.specs.declared.Refusal.{Refusal}
 use Rattle.refusal.specs.Number.{number_of}
 use Rattle.bits.proofs.Tests.{of_cond, by_test, never}
 use Rattle.card_rules.specs.Adapter.{Adapter}
@@ -16,20 +18,16 @@ use Rattle.driver_rules.specs.Driver.{never_opened, with_error}
 use Rattle.driver_rules.specs.Registers.{rx_status, unfit, tx_complete, rx_complete, bad, length_in}
 use Rattle.driver_rules.specs.Talk.{Talk, done, ask, Ran, run, read_words, bytes_read, after_reads}
 use Rattle.driver_rules.proofs.Runs.{reads_law}
-use Rattle.driver_rules.specs.declared.Answer.{Answer}
-use Rattle.driver_rules.specs.declared.Answer.TheVariants as serving
+use Rattle.driver_rules.specs.declared.Item.{Item}
 use Rattle.driver_rules.specs.Items.{Serving, short, is_error, seen, reports, report_talk, idle_talk, fetch_talk, words_in}
 use Rattle.driver_rules.specs.Service.{look_talk, receive_talk, drop_talk}
 use Rattle.fits.specs.Order.{status_read}
 use Rattle.fits.specs.When.{looked, rx_read, discarded, Needs, unfit_card, report, good_frame_is, damaged_frame, idle, Short, Enough}
 
 -- the answer is 6
-abbrev pub six : Answer → Bool
-six (serving.Reported t s) = false
-six (serving.Status s) = false
-six (serving.Frame n) = false
-six serving.Idle = false
-six (serving.Refused why) = eqb (number_of why) 6
+abbrev pub six : Result Item Refusal → Bool
+six (Ok item) = false
+six (Err why) = eqb (number_of why) 6
 
 -- .. at the end of a talk
 abbrev pub ends-short : Talk Serving → Adapter → Bool

@@ -1,4 +1,5 @@
 -- Every public call's refusals come in the one order: test by test. Assumes nothing.
+use Rattle.std.specs.Prelude.{Ok}
 use mathlib.Core.Path.{◌≡◌, refl, ap}
 use mathlib.Core.Bool.{Bool, true, false, cond, not}
 use mathlib.Core.List.{List, [], ◌∷◌}
@@ -8,7 +9,7 @@ use lib.Dec.{eqb, ltb}
 use Rattle.refusal.specs.declared.Refusal.{Refusal}
 use Rattle.refusal.specs.declared.Refusal.TheVariants.{StateUnsound, LengthOutside, MakerWrong, ChecksumWrong, SecondaryWrong, OutOfTurn, ArgumentOutside, NeverOpened, AreaShort}
 use Rattle.refusal.specs.Order.{if, Outcome, because, first_of, number_in, in_order, is_from, from, any}
-use Rattle.image_rules.specs.declared.Checked.TheVariants as checked
+use Rattle.image_rules.specs.declared.Node.{Node}
 use Rattle.image_rules.specs.Image.{word_at, checksum_of, secondary_of, or_refused, check_of}
 use Rattle.port_rules.specs.declared.Bus.{Bus}
 use Rattle.port_rules.specs.Port.{held}
@@ -27,7 +28,7 @@ use Rattle.driver_rules.specs.Send.{Sending, ticketed, refuses, send_talk}
 use Rattle.driver_rules.specs.Items.{Serving}
 use Rattle.driver_rules.specs.Service.{look_talk}
 use Rattle.driver_rules.specs.Calls.{open_call, send_call, service_call}
-use Rattle.fits.specs.Order.{Row, of_checked, of_rx_status, of_open, of_send, own, image_tests, status_read, free_read, send_tests, service_tests, or_refusing, or_done, RefusalsComeInOrder}
+use Rattle.fits.specs.Order.{Row, of_answer, own, image_tests, status_read, free_read, send_tests, service_tests, or_refusing, or_done, RefusalsComeInOrder}
 
 -- ---- the card and the ID port
 
@@ -45,7 +46,7 @@ events true false = (refl, refl)
 events false true = (refl, refl)
 events false false = (refl, refl)
 
-tellings : (sound : Bool) (a : Adapter) → Row (of_rx_status (rx_told sound a)) (if (not sound) StateUnsound ∷ [])
+tellings : (sound : Bool) (a : Adapter) → Row (of_answer (rx_told sound a)) (if (not sound) StateUnsound ∷ [])
 unfolding rx_told is_from from any
 tellings true a = record { in_order = refl; first = refl }
 tellings false a = record { in_order = refl; first = refl }
@@ -62,35 +63,35 @@ ports b ok o = (refl, port_by (all_sound (held b)) ok b o)
 
 -- ---- the image
 
-image_by : (a b c d : Bool) (w₀ w₁ w₂ : ℕ) →
-    of_checked (or_refused a LengthOutside (or_refused b MakerWrong (or_refused c ChecksumWrong (or_refused d SecondaryWrong (checked.Sound w₀ w₁ w₂)))))
+image_by : (a b c d : Bool) (node : Node) →
+    of_answer (or_refused a LengthOutside (or_refused b MakerWrong (or_refused c ChecksumWrong (or_refused d SecondaryWrong (Ok node)))))
     ≡ first_of (if (not a) LengthOutside ∷ if (not b) MakerWrong ∷ if (not c) ChecksumWrong ∷ if (not d) SecondaryWrong ∷ [])
-image_by false b c d w₀ w₁ w₂ = refl
-image_by true false c d w₀ w₁ w₂ = refl
-image_by true true false d w₀ w₁ w₂ = refl
-image_by true true true false w₀ w₁ w₂ = refl
-image_by true true true true w₀ w₁ w₂ = refl
+image_by false b c d node = refl
+image_by true false c d node = refl
+image_by true true false d node = refl
+image_by true true true false node = refl
+image_by true true true true node = refl
 
-images : (image : List ℕ) → Row (of_checked (check_of image)) (image_tests image)
+images : (image : List ℕ) → Row (of_answer (check_of image)) (image_tests image)
 unfolding check_of is_from from any
-images image = record { in_order = refl; first = image_by (eqb (length image) 128) (eqb (word_at image 0x07) 0x6D50) (eqb (word_at image 0x0F) (checksum_of image)) (eqb (word_at image 0x17) (secondary_of image)) _ _ _ }
+images image = record { in_order = refl; first = image_by (eqb (length image) 128) (eqb (word_at image 0x07) 0x6D50) (eqb (word_at image 0x0F) (checksum_of image)) (eqb (word_at image 0x17) (secondary_of image)) _ }
 
 -- ---- the driver
 
 -- a send that is refused where a test holds, and goes on where it does not
-sends_by : (b : Bool) (why : Refusal) (d : Driver) (rest : Talk Sending) (a : Adapter) (o : Outcome) → of_send (run rest a).answer.answer ≡ o
-    → of_send (run (cond b (done (refuses d why)) rest) a).answer.answer ≡ cond b (because why) o
+sends_by : (b : Bool) (why : Refusal) (d : Driver) (rest : Talk Sending) (a : Adapter) (o : Outcome) → of_answer (run rest a).answer.answer ≡ o
+    → of_answer (run (cond b (done (refuses d why)) rest) a).answer.answer ≡ cond b (because why) o
 unfolding run
 sends_by true why d rest a o e = refl
 sends_by false why d rest a o e = e
 
-sends-sound : (sound : Bool) (why : Refusal) (d : Driver) (rest : Talk Sending) (a : Adapter) (o : Outcome) → of_send (run rest a).answer.answer ≡ o
-    → of_send (run (cond sound rest (done (refuses d why))) a).answer.answer ≡ cond (not sound) (because why) o
+sends-sound : (sound : Bool) (why : Refusal) (d : Driver) (rest : Talk Sending) (a : Adapter) (o : Outcome) → of_answer (run rest a).answer.answer ≡ o
+    → of_answer (run (cond sound rest (done (refuses d why))) a).answer.answer ≡ cond (not sound) (because why) o
 unfolding run
 sends-sound true why d rest a o e = e
 sends-sound false why d rest a o e = refl
 
-sends : (sound : Bool) (d : Driver) (packet : List ℕ) (a : Adapter) → Row (of_send (run (send_call sound d packet) a).answer.answer) (send_tests sound d packet a)
+sends : (sound : Bool) (d : Driver) (packet : List ℕ) (a : Adapter) → Row (of_answer (run (send_call sound d packet) a).answer.answer) (send_tests sound d packet a)
 unfolding send_call send_talk run is_from from any
 sends sound d packet a =
     record {
@@ -102,10 +103,10 @@ sends sound d packet a =
           (sends_by (ltb 15 d.unreported) _ d _ a _
           (sends_by (unfit (status_read a)) _ d _ _ _
           (sends_by (lacks_room (free_read a) (length packet)) _ d _ _ _
-          (ap (λ R. of_send R.answer.answer) (writes_law (packet_words packet) (done (ticketed d)) _)))))));
+          (ap (λ R. of_answer R.answer.answer) (writes_law (packet_words packet) (done (ticketed d)) _)))))));
     }
 
-opens : (sound : Bool) (d : Driver) (w₀ w₁ w₂ : ℕ) (a : Adapter) → Row (of_open (run (open_call sound d w₀ w₁ w₂) a).answer.answer) (if (not sound) StateUnsound ∷ [])
+opens : (sound : Bool) (d : Driver) (w₀ w₁ w₂ : ℕ) (a : Adapter) → Row (of_answer (run (open_call sound d w₀ w₁ w₂) a).answer.answer) (if (not sound) StateUnsound ∷ [])
 unfolding open_call open_talk run is_from from any
 opens true d w₀ w₁ w₂ a = record { in_order = refl; first = refl }
 opens false d w₀ w₁ w₂ a = record { in_order = refl; first = refl }

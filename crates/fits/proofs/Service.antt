@@ -1,4 +1,5 @@
 -- What holds of each way a service can end holds of every run of one, whatever the card answers. `access` stays shut. Assumes nothing.
+use Rattle.std.specs.Prelude.{Ok, Err}
 use mathlib.Core.Path.{◌≡◌}
 use mathlib.Core.Bool.{false, ◌&&◌, ◌||◌}
 use mathlib.Core.List.{List, [], ◌∷◌}
@@ -14,18 +15,18 @@ use Rattle.driver_rules.specs.declared.Driver.{Driver}
 use Rattle.driver_rules.specs.Registers.{unfit, tx_complete, rx_complete, bad, length_in}
 use Rattle.driver_rules.specs.Talk.{Talk, done, ask, run, read_words}
 use Rattle.driver_rules.specs.Driver.{with_error}
-use Rattle.driver_rules.specs.declared.Answer.TheVariants.{Reported, Status, Frame, Idle, Refused}
+use Rattle.driver_rules.specs.declared.Item.TheVariants.{Reported, Status, Frame, Idle}
 use Rattle.driver_rules.specs.Items.{Serving, plain, short, is_error, seen, reports, report_talk, idle_talk, fetch_talk, words_in}
 use Rattle.driver_rules.specs.Service.{look_talk, receive_talk, drop_talk}
 
 -- the ways that a service which is begun can end
 pub record Ways (P : Serving → Type 0) : Type 0 where
   pub budget-short : (d : Driver) → P (short d)
-  pub card-unfit : (d : Driver) → P (plain (Refused CardUnfit) d)
-  pub reported : (t s : ℕ) (d : Driver) → P (plain (Reported t s) d)
-  pub status : (s : ℕ) (d : Driver) → P (plain (Status s) d)
-  pub idle : (d : Driver) → P (plain Idle d)
-  pub frame : (n : ℕ) (d : Driver) (bytes : List ℕ) → length bytes ≡ n → P (record { answer = Frame n; driver = d; bytes = bytes })
+  pub card-unfit : (d : Driver) → P (plain (Err CardUnfit) d)
+  pub reported : (t s : ℕ) (d : Driver) → P (plain (Ok (Reported t s)) d)
+  pub status : (s : ℕ) (d : Driver) → P (plain (Ok (Status s)) d)
+  pub idle : (d : Driver) → P (plain (Ok Idle) d)
+  pub frame : (n : ℕ) (d : Driver) (bytes : List ℕ) → length bytes ≡ n → P (record { answer = Ok (Frame n); driver = d; bytes = bytes })
 
 module _ (P : Serving → Type 0) (w : Ways P) where
   abbrev Always : Talk Serving → Type 0

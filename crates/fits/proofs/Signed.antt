@@ -1,4 +1,5 @@
 -- What `rx_status` tells, from its contract and the laws of the count; and the rules, one by one. Assumes nothing.
+use Rattle.std.specs.Prelude.{Result, Ok, Err}
 use mathlib.Core.Path.{◌≡◌, refl, sym, ap, ◌∙◌, subst}
 use mathlib.Core.Logic.{◌⊎◌, inl, inr}
 use mathlib.Core.Bool.{Bool, true, false, cond, ◌&&◌}
@@ -9,6 +10,7 @@ use lib.Dec.{leb}
 use lib.IntN.{ℤ, pos}
 use lib.Signed.{le_z_yes}
 use lib.ListN.{length}
+use Rattle.refusal.specs.declared.Refusal.{Refusal}
 use Rattle.bits.proofs.Tests.{both, by_test, never}
 use Rattle.store.specs.Store as store
 use Rattle.refusal.specs.declared.Refusal.TheVariants.{StateUnsound, CardUnfit}
@@ -21,17 +23,15 @@ use Rattle.receive_rules.proofs.Facts.{sound-told}
 use Rattle.receive_rules.proofs.Count.{Between, encoded_is, beyond_is, few, count-between, count-told}
 use Rattle.card_rules.specs.declared.Card.{Card}
 use Rattle.card_rules.specs.declared.RxStatus.{RxStatus}
-use Rattle.card_rules.specs.declared.AfterRead.{AfterRead}
+use Rattle.card_rules.specs.declared.After.{After as AfterCard}
 use Rattle.card_rules.specs.Access.{ReadWord, access, effect}
 use Rattle.card_rules.specs.Read.{window1, word_at}
 use Rattle.card_rules.specs.View.{rx_size_of, view, sound_card}
-use Rattle.card_rules.specs.declared.RxStatus.TheVariants.{Shows, Refused}
 use Rattle.card_rules.specs.RxStatus.{rx_word, rx_unread, rx_told}
 use Rattle.card_rules.specs.Calls.{value, replying, judged, read_reply}
 use Rattle.card_rules.specs.CardContracts as contract
 use Rattle.driver_rules.specs.declared.Driver.{Driver}
 use Rattle.driver_rules.specs.Registers.{status_port, rx_status, rx_discard, unfit, tx_complete, rx_complete, bad, length_in}
-use Rattle.driver_rules.specs.declared.Answer.TheVariants as serving
 use Rattle.driver_rules.specs.Talk.{done, read_word, order}
 use Rattle.driver_rules.specs.Items.{plain, report_talk, idle_talk, fetch_talk}
 use Rattle.driver_rules.specs.Service.{look_talk, receive_talk, drop_talk}
@@ -41,17 +41,17 @@ use Rattle.fits.specs.Signed.{status_before, bad_before, look_before, receive_be
 -- ---- the answer of the public call
 
 -- what an answer shows
-told-word : RxStatus → ℕ
-told-word (Shows w n) = w
-told-word (Refused why) = 0
+told-word : Result RxStatus Refusal → ℕ
+told-word (Ok x) = x.word
+told-word (Err why) = 0
 
-told-count : RxStatus → ℤ
-told-count (Shows w n) = n
-told-count (Refused why) = pos 0
+told-count : Result RxStatus Refusal → ℤ
+told-count (Ok x) = x.unread
+told-count (Err why) = pos 0
 
-shows : RxStatus → Bool
-shows (Shows w n) = true
-shows (Refused why) = false
+shows : Result RxStatus Refusal → Bool
+shows (Ok x) = true
+shows (Err why) = false
 
 module _ (c : Card) (ram dir : List ℕ) where
   x : Rx
@@ -91,7 +91,7 @@ module _ (c : Card) (ram dir : List ℕ) where
     read_is (inl n) = rw n
     read_is (inr w) = by_test c.id.active (λ y. rw (y, w)) (λ n. rw n)
 
-    answers : (c.id.active ≡ false) ⊎ (c.select.window ≡ 1) → (r : AfterRead) → contract.ReadsWord c ram dir 8 r → read_reply r.answer ≡ value (rx_word (view c ram dir))
+    answers : (c.id.active ≡ false) ⊎ (c.select.window ≡ 1) → (r : AfterCard ℕ) → contract.ReadsWord c ram dir 8 r → read_reply r.answer ≡ value (rx_word (view c ram dir))
     unfolding judged replying
     answers a r k = k.answer ∙ rw s (ap value (read_is a))
 
@@ -108,15 +108,15 @@ module _ (c : Card) (ram dir : List ℕ) where
           empty = λ y e. (word_is y ∙ rw e, count_is y ∙ rw e);
         }
 
-  told : (r : RxStatus) (w : ℕ) (n : ℤ) → contract.TellsRxStatus c ram dir r → r ≡ Shows w n → Tells c ram dir w n
+  told : (r : Result RxStatus Refusal) (w : ℕ) (n : ℤ) → contract.TellsRxStatus c ram dir r → r ≡ Ok (record { word = w; unread = n }) → Tells c ram dir w n
   unfolding rx_told told-word told-count shows
   told r w n k e =
       by_test (sound_card c ram dir)
       (λ s.
-      let same : Shows (rx_word (view c ram dir)) (rx_unread (view c ram dir)) ≡ Shows w n = sym (k ∙ rw s) ∙ e in
+      let same : Ok (record { word = rx_word (view c ram dir); unread = rx_unread (view c ram dir) }) ≡ Ok (record { word = w; unread = n }) = sym (k ∙ rw s) ∙ e in
       subst (λ (v : ℕ). Tells c ram dir v n) (ap told-word same)
       (subst (λ (z : ℤ). Tells c ram dir (rx_word (view c ram dir)) z) (ap told-count same) (tells s)))
-      (λ u. let same : Refused StateUnsound ≡ Shows w n = sym (k ∙ rw u) ∙ e in never (ap shows same))
+      (λ u. let same : Err StateUnsound ≡ Ok (record { word = w; unread = n }) = sym (k ∙ rw u) ∙ e in never (ap shows same))
 
 -- ---- the rules
 
@@ -136,7 +136,7 @@ mutual
 
   look-before : (n : ℕ) (d : Driver) → look_talk n d ≡ look_before n d
   look-before zero d = refl
-  look-before (suc left) d = λ i. read_word status_port (λ status. cond (unfit status) (done (plain (serving.Refused CardUnfit) d)) (cond (tx_complete status) (report_talk left d) (cond (rx_complete status) (receive_before_lem left d i) (idle_talk left d))))
+  look-before (suc left) d = λ i. read_word status_port (λ status. cond (unfit status) (done (plain (Err CardUnfit) d)) (cond (tx_complete status) (report_talk left d) (cond (rx_complete status) (receive_before_lem left d i) (idle_talk left d))))
 
   receive_before_lem : (n : ℕ) (d : Driver) → receive_talk n d ≡ receive_before n d
   receive_before_lem zero d = refl

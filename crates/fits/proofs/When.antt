@@ -1,4 +1,5 @@
 -- What each call says is a chain of its tests, by the run of its tree: each number has its row in it. A service that is begun is refused 5 at its first Status read or not at all, and is short by what it needs. Assumes nothing.
+use Rattle.std.specs.Prelude.{Result, Ok, Err}
 use mathlib.Core.Path.{◌≡◌, refl, sym, ap, ◌∙◌}
 use mathlib.Core.Logic.{◌↔◌, ◌⊎◌, inl, inr}
 use mathlib.Core.Bool.{Bool, true, false, cond, not}
@@ -20,8 +21,8 @@ use Rattle.driver_rules.specs.Packet.{outside, lacks_room, packet_words}
 use Rattle.driver_rules.specs.Talk.{Talk, done, ask, Ran, run}
 use Rattle.driver_rules.proofs.Runs.{writes_law}
 use Rattle.driver_rules.proofs.Unfit.{unfit_at_once}
-use Rattle.driver_rules.specs.declared.Answer.{Answer}
-use Rattle.driver_rules.specs.declared.Answer.TheVariants as serving
+use Rattle.driver_rules.specs.declared.Item.{Item}
+use Rattle.driver_rules.specs.declared.Item.TheVariants as serving
 use Rattle.driver_rules.specs.Open.{open_talk}
 use Rattle.driver_rules.specs.Send.{Sending, refuses, ticketed, send_talk}
 use Rattle.driver_rules.specs.Items.{Serving, plain, short, report_talk, idle_talk}
@@ -117,16 +118,16 @@ short_by : (b : Bool) (m used : ℕ) → eqb m 6 ≡ b → cond b (paper.short u
 short_by true m used h = (λ _. refl, λ _. refl)
 short_by false m used h = (λ e. absurd (apart (refused m) (paper.short used) h e), λ e. never e)
 
-says-short : (x : Answer) (used : ℕ) → service_paper x used ≡ paper.short used ↔ six x ≡ true
-says-short (serving.Reported t s) used = (λ e. absurd (apart (paper.report t s used) (paper.short used) refl e), λ e. never e)
-says-short (serving.Status s) used = (λ e. absurd (apart (paper.status_alone s used) (paper.short used) refl e), λ e. never e)
-says-short (serving.Frame n) used = (λ e. absurd (apart (paper.frame n used) (paper.short used) refl e), λ e. never e)
-says-short serving.Idle used = (λ e. absurd (apart (paper.idle used) (paper.short used) refl e), λ e. never e)
-says-short (serving.Refused why) used = short_by (eqb (number_of why) 6) (number_of why) used refl
+says-short : (x : Result Item Refusal) (used : ℕ) → service_paper x used ≡ paper.short used ↔ six x ≡ true
+says-short (Ok (serving.Reported t s)) used = (λ e. absurd (apart (paper.report t s used) (paper.short used) refl e), λ e. never e)
+says-short (Ok (serving.Status s)) used = (λ e. absurd (apart (paper.status_alone s used) (paper.short used) refl e), λ e. never e)
+says-short (Ok (serving.Frame n)) used = (λ e. absurd (apart (paper.frame n used) (paper.short used) refl e), λ e. never e)
+says-short (Ok serving.Idle) used = (λ e. absurd (apart (paper.idle used) (paper.short used) refl e), λ e. never e)
+says-short (Err why) used = short_by (eqb (number_of why) 6) (number_of why) used refl
 
 -- its one refusal besides is 5
 abbrev Five : Serving → Type 0
-Five x = (used n : ℕ) → service_paper x.answer used ≡ refused n → (n ≡ 5) × (x.answer ≡ serving.Refused CardUnfit)
+Five x = (used n : ℕ) → service_paper x.answer used ≡ refused n → (n ≡ 5) × (x.answer ≡ Err CardUnfit)
 
 five_alone : Ways Five
 five_alone =
@@ -141,7 +142,7 @@ five_alone =
 
 -- a talk that makes no access does not answer 5
 abbrev Quiet : Talk Serving → Type 0
-Quiet t = (a : Adapter) → length (run t a).made ≡ 0 → (run t a).answer.answer ≡ serving.Refused CardUnfit → ⊥
+Quiet t = (a : Adapter) → length (run t a).made ≡ 0 → (run t a).answer.answer ≡ Err CardUnfit → ⊥
 
 quiet-ask : (x : Access) (next : ℕ → Talk Serving) → Quiet (ask x next)
 unfolding run
@@ -166,7 +167,7 @@ quiet-idle zero d = quiet_short d
 quiet-idle (suc left) d = quiet-ask _ _
 
 -- 5 comes at the first read, so that read shows an unfit Status
-unfit-shown : (budget : ℕ) (d : Driver) (a : Adapter) → (run (look_talk budget d) a).answer.answer ≡ serving.Refused CardUnfit → (0 < budget) × (unfit (status_read a) ≡ true)
+unfit-shown : (budget : ℕ) (d : Driver) (a : Adapter) → (run (look_talk budget d) a).answer.answer ≡ Err CardUnfit → (0 < budget) × (unfit (status_read a) ≡ true)
 unfolding look_talk run
 unfit-shown zero d a e = never (sym (ap six e))
 unfit-shown (suc left) d a e =
@@ -176,7 +177,7 @@ unfit-shown (suc left) d a e =
     of_cond Quiet (tx_complete s) (quiet-report left d) (of_cond Quiet (rx_complete s) (quiet_receive left d) (quiet-idle left d)) in
     by_test (unfit s) (λ u. (omega arith, u)) (λ u. absurd (rest (looked a) (omega (arith, rw u at once)) (rw u at e)))
 
-unfit-said : (budget : ℕ) (d : Driver) (a : Adapter) → 0 < budget → unfit (status_read a) ≡ true → (run (look_talk budget d) a).answer.answer ≡ serving.Refused CardUnfit
+unfit-said : (budget : ℕ) (d : Driver) (a : Adapter) → 0 < budget → unfit (status_read a) ≡ true → (run (look_talk budget d) a).answer.answer ≡ Err CardUnfit
 unfolding look_talk run
 unfit-said zero d a b u = absurd (omega arith)
 unfit-said (suc left) d a b u = rw u
@@ -184,7 +185,7 @@ unfit-said (suc left) d a b u = rw u
 -- ---- service
 
 serves_by : (b : Bool) (why : Refusal) (d : Driver) (rest : Talk Serving) (a : Adapter) (used : ℕ) (p : Paper) → service_paper (run rest a).answer.answer used ≡ p
-    → service_paper (run (cond b (done (plain (serving.Refused why) d)) rest) a).answer.answer used ≡ cond b (service_paper (serving.Refused why) used) p
+    → service_paper (run (cond b (done (plain (Err why) d)) rest) a).answer.answer used ≡ cond b (service_paper (Err why) used) p
 unfolding run
 serves_by true why d rest a used p e = refl
 serves_by false why d rest a used p e = e
@@ -200,7 +201,7 @@ module _ (sound : Bool) (d : Driver) (budget : ℕ) (look frame : List ℕ) (a :
   abbrev areas : Bool
   areas = large look frame
 
-  abbrev answers : Answer
+  abbrev answers : Result Item Refusal
   answers = (run (look_talk budget d) a).answer.answer
 
   abbrev begun-says : Paper
@@ -213,7 +214,7 @@ module _ (sound : Bool) (d : Driver) (budget : ℕ) (look frame : List ℕ) (a :
   unfolding service_call
   service-says = serves_by (not sound) StateUnsound d _ a used _ (serves_by (not d.opened) NeverOpened d _ a used _ (serves_by (not areas) AreaShort d _ a used _ refl))
 
-  five : (n : ℕ) → begun-says ≡ refused n → (n ≡ 5) × (answers ≡ serving.Refused CardUnfit)
+  five : (n : ℕ) → begun-says ≡ refused n → (n ≡ 5) × (answers ≡ Err CardUnfit)
   five n e = of_look Five five_alone budget d a used n e
 
   not_five : (n : ℕ) → eqb n 5 ≡ false → begun-says ≡ refused n → ⊥
@@ -237,7 +238,7 @@ module _ (sound : Bool) (d : Driver) (budget : ℕ) (look frame : List ℕ) (a :
         refusal_7 = said e (behind-not sound 1 (refused 7) refl (behind-not d.opened 13 (refused 7) refl (here-not areas 7 (not_five 7 refl))));
         refusal_5 =
             begun says (refused 5) e refl refl refl
-            (λ f. let q = unfit-shown budget d a (five 5 f).1 in (omega (arith, q.0), q.1), λ p. ap (λ (x : Answer). service_paper x used) (unfit-said budget d a (omega (arith, p.0)) p.1));
+            (λ f. let q = unfit-shown budget d a (five 5 f).1 in (omega (arith, q.0), q.1), λ p. ap (λ (x : Result Item Refusal). service_paper x used) (unfit-said budget d a (omega (arith, p.0)) p.1));
         refusal_6 = begun says (paper.short used) e refl refl refl six_when;
         enough = λ h.
             by_test (six answers)
@@ -253,7 +254,7 @@ refused_exactly_when_lem =
       sends = λ c ram dir d packet r ram' dir' k. send_when (sound_state c ram dir d) d packet (view c ram dir) (send_paper r.answer) (ap send_paper k.answer ∙ send-says (sound_state c ram dir d) d packet (view c ram dir));
       services = λ c ram dir d budget look frame r ram' dir' look' frame' k.
           service_when (sound_state c ram dir d) d budget look frame (view c ram dir) r.used (service_paper r.answer r.used)
-          (ap (λ (x : Answer). service_paper x r.used) k.answer ∙ service-says (sound_state c ram dir d) d budget look frame (view c ram dir) r.used);
+          (ap (λ (x : Result Item Refusal). service_paper x r.used) k.answer ∙ service-says (sound_state c ram dir d) d budget look frame (view c ram dir) r.used);
       one_need = one_need;
       endless = λ a s on w f u t x g budget n k. absurd (endless a s on w f u t x g a n refl k);
     }

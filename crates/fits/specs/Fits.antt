@@ -1,12 +1,12 @@
 -- Nothing else fits: a field for each public call, over any state and arguments. Assumes nothing.
-use Rattle.std.specs.Prelude.{◌≡◌, Bool, true, List, ℕ, suc, length, take}
+use Rattle.std.specs.Prelude.{◌≡◌, Bool, true, List, ℕ, suc, length, take, Result, ⊤}
 use Rattle.std.specs.Borrow.{Bor}
 use Rattle.refusal.specs.declared.Refusal.{Refusal}
 use Rattle.refusal.specs.Number.{number_of}
 use Rattle.refusal.specs.RefusalContracts as refusal
 use Rattle.image_rules.specs.declared.WordOffset.{WordOffset}
 use Rattle.image_rules.specs.declared.BytePlace.{BytePlace}
-use Rattle.image_rules.specs.declared.Checked.{Checked}
+use Rattle.image_rules.specs.declared.Node.{Node}
 use Rattle.image_rules.specs.Image as image
 use Rattle.image_rules.specs.declared.Text.{Text}
 use Rattle.image_rules.specs.Line.{line_of}
@@ -16,25 +16,19 @@ use Rattle.port_rules.specs.Card.{id_fresh, id_write, id_bit, id_after_read}
 use Rattle.port_rules.specs.Sound.{id_sound}
 use Rattle.port_rules.specs.declared.Bus.{Bus}
 use Rattle.port_rules.specs.Calls as port
-use Rattle.port_rules.specs.declared.Wrote.{Wrote}
-use Rattle.port_rules.specs.declared.Bit.{Bit}
 use Rattle.port_rules.specs.declared.Listed.{Listed}
-use Rattle.port_rules.specs.declared.Activation.{Activation}
 use Rattle.port_rules.specs.Lent.{lent, wrote_over, read_over, found_over, activated_over}
 use Rattle.port_rules.specs.PortContracts as at_port
 use Rattle.transmit_rules.specs.Tx.{ready}
 use Rattle.card_rules.specs.declared.Card.{Card}
 use Rattle.card_rules.specs.View.{view, sound_card}
-use Rattle.card_rules.specs.declared.AfterRead.{AfterRead}
-use Rattle.card_rules.specs.declared.AfterCall.{AfterCall}
-use Rattle.card_rules.specs.declared.AfterSuccess.{AfterSuccess}
+use Rattle.card_rules.specs.declared.After.{After as AfterCard}
 use Rattle.card_rules.specs.Calls.{Reply, refused, value, replying, read_reply, done_reply, told_reply, judged, is_word, is_byte, on_wire, off_wire}
 use Rattle.card_rules.specs.Line.{interrupt_line}
 use Rattle.card_rules.specs.RxStatus.{rx_told}
 use Rattle.card_rules.specs.CardContracts as contract
 use Rattle.driver_rules.specs.declared.Driver.{Driver}
-use Rattle.driver_rules.specs.declared.Opened.{Opened}
-use Rattle.driver_rules.specs.declared.Sent.{Sent}
+use Rattle.driver_rules.specs.declared.After.{After}
 use Rattle.driver_rules.specs.declared.Serviced.{Serviced}
 use Rattle.driver_rules.specs.Paper.{open_paper, send_paper, service_paper}
 use Rattle.driver_rules.specs.Calls.{Opens, Sends, Services}
@@ -62,17 +56,17 @@ pub record OneAnswer {A : Type 0} (number : ℕ) (reply : A → Reply) (end : A 
   pub refused_only_when : (r : A) → meets r → (n : ℕ) → reply r ≡ refused n → (number ≡ n) × (n ≡ 0 → ⊥)
 
 -- .. of a read, of a call that answers done, and of a success
-abbrev pub OneRead : List ℕ → List ℕ → ℕ → (AfterRead → Type 0) → Type 0
+abbrev pub OneRead : List ℕ → List ℕ → ℕ → (AfterCard ℕ → Type 0) → Type 0
 OneRead ram dir number meets = OneAnswer number (λ r. read_reply r.answer) (λ r. record { card = r.card; ram = ram; dir = dir }) meets
 
-abbrev pub OneCall : ℕ → (AfterCall → List ℕ → List ℕ → Type 0) → Type 0
+abbrev pub OneCall : ℕ → (AfterCard ⊤ → List ℕ → List ℕ → Type 0) → Type 0
 OneCall number meets =
-    OneAnswer {A = With AfterCall} number (λ r. done_reply r.result.answer) (λ r. record { card = r.result.card; ram = r.ram; dir = r.dir })
+    OneAnswer {A = With (AfterCard ⊤)} number (λ r. done_reply r.result.answer) (λ r. record { card = r.result.card; ram = r.ram; dir = r.dir })
     (λ r. meets r.result r.ram r.dir)
 
-abbrev pub OneSuccess : ℕ → (AfterSuccess → List ℕ → List ℕ → Type 0) → Type 0
+abbrev pub OneSuccess : ℕ → (AfterCard ℕ → List ℕ → List ℕ → Type 0) → Type 0
 OneSuccess number meets =
-    OneAnswer {A = With AfterSuccess} number (λ r. told_reply r.result.answer) (λ r. record { card = r.result.card; ram = r.ram; dir = r.dir })
+    OneAnswer {A = With (AfterCard ℕ)} number (λ r. told_reply r.result.answer) (λ r. record { card = r.result.card; ram = r.ram; dir = r.dir })
     (λ r. meets r.result r.ram r.dir)
 
 module _ (c : Card) (ram dir : List ℕ) where
@@ -104,10 +98,10 @@ module _ (c : Card) (ram dir : List ℕ) where
 
 -- ---- the driver d, handed the card too
 
-abbrev pub opened : With Opened → Left
+abbrev pub opened : With (After ⊤) → Left
 opened r = record { paper = open_paper r.result.answer; driver = r.result.driver; end = record { card = r.result.card; ram = r.ram; dir = r.dir } }
 
-abbrev pub sent : With Sent → Left
+abbrev pub sent : With (After ℕ) → Left
 sent r = record { paper = send_paper r.result.answer; driver = r.result.driver; end = record { card = r.result.card; ram = r.ram; dir = r.dir } }
 
 abbrev pub served : WithAreas Serviced → Left
@@ -134,10 +128,10 @@ pub record PortCalls (b : Bus) (x : ℕ) : Type 0 where
 
 -- .. and in a lent slice
 pub record LentCalls (cards : List IdState) (x : ℕ) : Type 0 where
-  pub write : (byte : ℕ) → Exactly {A = Over Wrote} (λ r. at_port.LentWrite cards x byte r.answer r.cards) (λ r. wrote_over r.answer r.cards) (port.port_writes (lent cards) x byte)
-  pub read : Exactly {A = Over Bit} (λ r. at_port.LentRead cards x r.answer r.cards) (λ r. read_over r.answer r.cards) (port.port_reads (lent cards) x)
+  pub write : (byte : ℕ) → Exactly {A = Over (Result ⊤ Refusal)} (λ r. at_port.LentWrite cards x byte r.answer r.cards) (λ r. wrote_over r.answer r.cards) (port.port_writes (lent cards) x byte)
+  pub read : Exactly {A = Over (Result ℕ Refusal)} (λ r. at_port.LentRead cards x r.answer r.cards) (λ r. read_over r.answer r.cards) (port.port_reads (lent cards) x)
   pub find : Exactly {A = Over Listed} (λ r. at_port.LentFind cards x r.answer r.cards) (λ r. found_over r.answer r.cards) (port.finds_cards (lent cards) x)
-  pub activate : (tag base : ℕ) → Exactly {A = Over Activation} (λ r. at_port.LentActivate cards x tag base r.answer r.cards) (λ r. activated_over r.answer r.cards) (port.activates_card (lent cards) x tag base)
+  pub activate : (tag base : ℕ) → Exactly {A = Over (Result ℕ Refusal)} (λ r. at_port.LentActivate cards x tag base r.answer r.cards) (λ r. activated_over r.answer r.cards) (port.activates_card (lent cards) x tag base)
 
 -- ---- the image's line
 
@@ -179,7 +173,7 @@ pub record NothingElseFits : Type 0 where
   pub checksum : (bytes : List ℕ) → Exactly (of_image.Checksum bytes) (λ r. r) (image.checksum_of bytes)
   pub secondary : (bytes : List ℕ) → Exactly (of_image.Secondary bytes) (λ r. r) (image.secondary_of bytes)
   pub check : (bytes : List ℕ) → Exactly (of_image.Check bytes) (λ r. r) (image.check_of bytes)
-  pub line : (found : Checked) → OneLine (of_image.Line found) (line_of found)
+  pub line : (found : Result Node Refusal) → OneLine (of_image.Line found) (line_of found)
   pub line_judged : (bytes : List ℕ) → OneLine (of_image.Judged bytes) (line_of (image.check_of bytes))
   -- refusal
   pub number : (why : Refusal) → Exactly (refusal.Number why) (λ r. r) (number_of why)

@@ -1,7 +1,6 @@
 -- What the contracts leave free is really free: the bytes that the view does not show. Assumes nothing.
-use Rattle.std.specs.Prelude.{◌≡◌, true, List, ℕ, length}
+use Rattle.std.specs.Prelude.{◌≡◌, true, List, ℕ, length, Ok}
 use Rattle.card_rules.specs.declared.Card.{Card}
-use Rattle.card_rules.specs.declared.Done.TheVariants as finished
 use Rattle.card_rules.specs.Calls.{is_word}
 use Rattle.card_rules.specs.CardContracts as contract
 
@@ -10,4 +9,4 @@ abbrev pub TheMemoryIsLeftFree : Type 0
 TheMemoryIsLeftFree =
     (words : List ℕ) (c : Card) → contract.PowerOn words c → (ram dir ram' dir' : List ℕ) →
     length ram ≡ 8192 → length dir ≡ 1110 → length ram' ≡ 8192 → length dir' ≡ 1110 → (o v : ℕ) → is_word o ≡ true →
-    contract.WritesWord c ram dir o v (record { card = c; answer = finished.Done }) ram' dir'
+    contract.WritesWord c ram dir o v (record { card = c; answer = Ok tt }) ram' dir'

@@ -1,29 +1,20 @@
 -- Every public call's refusals come in the one order of `refusal`: its tests are a row of that order, and it is refused by the first that holds.
 -- Those of the catalogue's calls stand in `catalogue_fits`. Assumes nothing.
-use Rattle.std.specs.Prelude.{◌≡◌, Bool, true, not, List, [], ◌∷◌, ℕ, length, eqb, ltb}
+use Rattle.std.specs.Prelude.{◌≡◌, Bool, true, not, List, [], ◌∷◌, ℕ, length, eqb, ltb, Result, Ok, Err}
 use Rattle.refusal.specs.declared.Refusal.{Refusal}
 use Rattle.refusal.specs.declared.Refusal.TheVariants.{StateUnsound, LengthOutside, SixteenUnreported, NoRoom, CardUnfit, AreaShort, MakerWrong, ChecksumWrong, SecondaryWrong, OutOfTurn, ArgumentOutside, NeverOpened}
 use Rattle.refusal.specs.Number.{number_of}
 use Rattle.refusal.specs.Order.{Test, if, Outcome, fine, because, first_of, number_in, in_order}
-use Rattle.image_rules.specs.declared.Checked.{Checked}
-use Rattle.image_rules.specs.declared.Checked.TheVariants as checked
 use Rattle.image_rules.specs.Image.{word_at, checksum_of, secondary_of, check_of}
 use Rattle.port_rules.specs.declared.Bus.{Bus}
 use Rattle.port_rules.specs.Port.{held}
 use Rattle.port_rules.specs.Gathered.{all_sound}
 use Rattle.port_rules.specs.Calls as port
-use Rattle.card_rules.specs.declared.RxStatus.{RxStatus}
-use Rattle.card_rules.specs.declared.RxStatus.TheVariants as rx
 use Rattle.card_rules.specs.Adapter.{Adapter}
 use Rattle.card_rules.specs.Access.{access, ReadWord}
 use Rattle.card_rules.specs.RxStatus.{rx_told}
 use Rattle.card_rules.specs.Tests.{judged}
 use Rattle.driver_rules.specs.declared.Driver.{Driver}
-use Rattle.driver_rules.specs.declared.OpenAnswer.{OpenAnswer}
-use Rattle.driver_rules.specs.declared.OpenAnswer.TheVariants as opening
-use Rattle.driver_rules.specs.declared.SendAnswer.{SendAnswer}
-use Rattle.driver_rules.specs.declared.SendAnswer.TheVariants as sending
-use Rattle.driver_rules.specs.declared.Answer.TheVariants as serving
 use Rattle.driver_rules.specs.Registers.{status_port, tx_free, unfit}
 use Rattle.driver_rules.specs.Packet.{outside, lacks_room}
 use Rattle.driver_rules.specs.Talk.{Talk, done, run}
@@ -37,21 +28,9 @@ pub record Row (outcome : Outcome) (tests : List Test) : Type 0 where
   pub first : outcome ≡ first_of tests
 
 -- what an answer says of a refusal
-abbrev pub of_checked : Checked → Outcome
-of_checked (checked.Sound w₀ w₁ w₂) = fine
-of_checked (checked.Refused why) = because why
-
-abbrev pub of_rx_status : RxStatus → Outcome
-of_rx_status (rx.Shows word unread) = fine
-of_rx_status (rx.Refused why) = because why
-
-abbrev pub of_open : OpenAnswer → Outcome
-of_open opening.Done = fine
-of_open (opening.Refused why) = because why
-
-abbrev pub of_send : SendAnswer → Outcome
-of_send (sending.Ticket n) = fine
-of_send (sending.Refused why) = because why
+abbrev pub of_answer : {T : Type 0} → Result T Refusal → Outcome
+of_answer (Ok x) = fine
+of_answer (Err why) = because why
 
 -- ---- the tests of each call, in the order
 
@@ -99,7 +78,7 @@ or_refusing (because why) b o = port.refusing (number_of why) b
 
 abbrev pub or_done : Outcome → Driver → Talk Serving → Talk Serving
 or_done fine d talk = talk
-or_done (because why) d talk = done (plain (serving.Refused why) d)
+or_done (because why) d talk = done (plain (Err why) d)
 
 -- ---- the statement
 
@@ -108,12 +87,12 @@ pub record RefusalsComeInOrder : Type 0 where
   pub accesses : (sound ok : Bool) → (in_order (own sound ok ArgumentOutside) ≡ true) × (judged sound ok 12 ≡ number_in (first_of (own sound ok ArgumentOutside)))
   pub events : (sound ok : Bool) → (in_order (own sound ok OutOfTurn) ≡ true) × (judged sound ok 11 ≡ number_in (first_of (own sound ok OutOfTurn)))
   -- What a card tells without a step, RX Status, by 1 alone.
-  pub tellings : (sound : Bool) (a : Adapter) → Row (of_rx_status (rx_told sound a)) (if (not sound) StateUnsound ∷ [])
+  pub tellings : (sound : Bool) (a : Adapter) → Row (of_answer (rx_told sound a)) (if (not sound) StateUnsound ∷ [])
   -- A call at the ID port by 1 and 12.
   pub port : (b : Bus) (ok : Bool) (o : port.Outcome) → (in_order (own (all_sound (held b)) ok ArgumentOutside) ≡ true) × (port.judged b ok o ≡ or_refusing (first_of (own (all_sound (held b)) ok ArgumentOutside)) b o)
   -- An image by 2, 8, 9 and 10.
-  pub image : (image : List ℕ) → Row (of_checked (check_of image)) (image_tests image)
+  pub image : (image : List ℕ) → Row (of_answer (check_of image)) (image_tests image)
   -- Open by 1; send by 1, 13, 2, 3, and then by what it reads, 5 and 4; a service by 1, 13 and 7 before its first access.
-  pub opens : (sound : Bool) (d : Driver) (w₀ w₁ w₂ : ℕ) (a : Adapter) → Row (of_open (run (open_call sound d w₀ w₁ w₂) a).answer.answer) (if (not sound) StateUnsound ∷ [])
-  pub sends : (sound : Bool) (d : Driver) (packet : List ℕ) (a : Adapter) → Row (of_send (run (send_call sound d packet) a).answer.answer) (send_tests sound d packet a)
+  pub opens : (sound : Bool) (d : Driver) (w₀ w₁ w₂ : ℕ) (a : Adapter) → Row (of_answer (run (open_call sound d w₀ w₁ w₂) a).answer.answer) (if (not sound) StateUnsound ∷ [])
+  pub sends : (sound : Bool) (d : Driver) (packet : List ℕ) (a : Adapter) → Row (of_answer (run (send_call sound d packet) a).answer.answer) (send_tests sound d packet a)
   pub services : (sound areas : Bool) (d : Driver) (budget : ℕ) → (in_order (service_tests sound areas d) ≡ true) × (service_call sound areas d budget ≡ or_done (first_of (service_tests sound areas d)) d (look_talk budget d))

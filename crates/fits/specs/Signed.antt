@@ -1,5 +1,6 @@
 -- RX Status tells the unread bytes as a signed number, and the rules that go by it are the rules before it. Assumes nothing.
-use Rattle.std.specs.Prelude.{◌≡◌, ◌⊎◌, Bool, true, false, cond, ◌||◌, List, [], ◌∷◌, ℕ, zero, suc, ◌+◌, ◌-◌, ◌%◌, ltb, ℤ, pos, negsuc, ◌≤ℤ◌, length}
+use Rattle.std.specs.Prelude.{◌≡◌, ◌⊎◌, Bool, true, false, cond, ◌||◌, List, [], ◌∷◌, ℕ, zero, suc, ◌+◌, ◌-◌, ◌%◌, ltb, ℤ, pos, negsuc, ◌≤ℤ◌, length, Result, Ok, Err}
+use Rattle.refusal.specs.declared.Refusal.{Refusal}
 use Rattle.bits.specs.Bits.{has}
 use Rattle.refusal.specs.declared.Refusal.TheVariants.{CardUnfit}
 use Rattle.receive_rules.specs.Frame.{Frame, Rx}
@@ -9,14 +10,12 @@ use Rattle.receive_rules.specs.Reading.{marks, readable, beyond}
 use Rattle.receive_rules.specs.Sound.{sound}
 use Rattle.card_rules.specs.declared.Card.{Card}
 use Rattle.card_rules.specs.declared.RxStatus.{RxStatus}
-use Rattle.card_rules.specs.declared.AfterRead.{AfterRead}
+use Rattle.card_rules.specs.declared.After.{After as AfterCard}
 use Rattle.card_rules.specs.View.{view}
 use Rattle.card_rules.specs.Read.{window1}
-use Rattle.card_rules.specs.declared.RxStatus.TheVariants.{Shows}
 use Rattle.card_rules.specs.Calls.{value, read_reply}
 use Rattle.card_rules.specs.CardContracts as contract
 use Rattle.driver_rules.specs.declared.Driver.{Driver}
-use Rattle.driver_rules.specs.declared.Answer.TheVariants.{Refused}
 use Rattle.driver_rules.specs.Registers.{status_port, rx_status, rx_discard, unfit, tx_complete, rx_complete, bad, length_in}
 use Rattle.driver_rules.specs.Talk.{Talk, done, read_word, order}
 use Rattle.driver_rules.specs.Items.{Serving, plain, short, report_talk, idle_talk, fetch_talk}
@@ -41,7 +40,7 @@ unfoldable mutual
   look_before zero d = done (short d)
   look_before (suc left) d =
       read_word status_port (λ status.
-      cond (unfit status) (done (plain (Refused CardUnfit) d))
+      cond (unfit status) (done (plain (Err CardUnfit) d))
       (cond (tx_complete status) (report_talk left d)
       (cond (rx_complete status) (receive_before left d)
       (idle_talk left d))))
@@ -68,14 +67,14 @@ pub record Tells (c : Card) (ram dir : List ℕ) (w : ℕ) (n : ℤ) : Type 0 wh
   -- .. and is what the register of window 1 shows, whatever window is selected
   pub register : c.id.active ≡ true → w ≡ window1 0x08 (view c ram dir)
   -- .. so it is what `read_word` answers at 08h in window 1, and of an inactive card
-  pub read : (c.id.active ≡ false) ⊎ (c.select.window ≡ 1) → (r : AfterRead) → contract.ReadsWord c ram dir 0x08 r → read_reply r.answer ≡ value w
+  pub read : (c.id.active ≡ false) ⊎ (c.select.window ≡ 1) → (r : AfterCard ℕ) → contract.ReadsWord c ram dir 0x08 r → read_reply r.answer ≡ value w
   pub inactive : c.id.active ≡ false → (w ≡ 0xFFFF) × (n ≡ pos 0)
   pub empty : c.id.active ≡ true → (view c ram dir).rx.frames ≡ [] → (w ≡ 0x8000) × (n ≡ pos 0)
 
 -- ---- the statement
 
 pub record UnreadBytesAreSigned : Type 0 where
-  pub told : (c : Card) (ram dir : List ℕ) (r : RxStatus) (w : ℕ) (n : ℤ) → contract.TellsRxStatus c ram dir r → r ≡ Shows w n → Tells c ram dir w n
+  pub told : (c : Card) (ram dir : List ℕ) (r : Result RxStatus Refusal) (w : ℕ) (n : ℤ) → contract.TellsRxStatus c ram dir r → r ≡ Ok (record { word = w; unread = n }) → Tells c ram dir w n
   -- RX Status of every sound receive side
   pub status : (size : ℕ) (x : Rx) → sound size x ≡ true → reading.rx_status x.receiver.read x.frames ≡ status_before x.receiver.read x.frames
   -- the failure of a data read, in every state

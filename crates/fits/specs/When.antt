@@ -1,13 +1,12 @@
 -- "Given exactly when": open, send and service answer a number exactly when document 01's table says so. Nothing is known of a call but its contract. Assumes nothing.
-use Rattle.std.specs.Prelude.{◌≡◌, ◌↔◌, ◌⊎◌, Bool, true, false, List, ℕ, ◌+◌, ◌<◌, ◌≤◌, length, ltb}
+use Rattle.std.specs.Prelude.{◌≡◌, ◌↔◌, ◌⊎◌, Bool, true, false, List, ℕ, ◌+◌, ◌<◌, ◌≤◌, length, ltb, ⊤}
 use Rattle.card_rules.specs.declared.Card.{Card}
 use Rattle.card_rules.specs.Adapter.{Adapter}
 use Rattle.card_rules.specs.Sound as card
 use Rattle.card_rules.specs.View.{view}
 use Rattle.card_rules.specs.Access.{ReadWord, WriteWord, access}
 use Rattle.driver_rules.specs.declared.Driver.{Driver}
-use Rattle.driver_rules.specs.declared.Opened.{Opened}
-use Rattle.driver_rules.specs.declared.Sent.{Sent}
+use Rattle.driver_rules.specs.declared.After.{After}
 use Rattle.driver_rules.specs.declared.Serviced.{Serviced}
 use Rattle.driver_rules.specs.Registers.{status_port, rx_status, command_port, rx_discard, unfit, tx_complete, rx_complete, bad, length_in}
 use Rattle.driver_rules.specs.Packet.{outside, lacks_room}
@@ -109,9 +108,9 @@ module _ (sound : Bool) (d : Driver) where
 -- ---- the statement
 
 pub record RefusedExactlyWhen : Type 0 where
-  pub opens : (c : Card) (ram dir : List ℕ) (d : Driver) (w₀ w₁ w₂ : ℕ) (r : Opened) (ram' dir' : List ℕ) → Opens c ram dir d w₀ w₁ w₂ r ram' dir'
+  pub opens : (c : Card) (ram dir : List ℕ) (d : Driver) (w₀ w₁ w₂ : ℕ) (r : After ⊤) (ram' dir' : List ℕ) → Opens c ram dir d w₀ w₁ w₂ r ram' dir'
       → Open-when (sound_state c ram dir d) d (open_paper r.answer)
-  pub sends : (c : Card) (ram dir : List ℕ) (d : Driver) (packet : List ℕ) (r : Sent) (ram' dir' : List ℕ) → Sends c ram dir d packet r ram' dir'
+  pub sends : (c : Card) (ram dir : List ℕ) (d : Driver) (packet : List ℕ) (r : After ℕ) (ram' dir' : List ℕ) → Sends c ram dir d packet r ram' dir'
       → Send-when (sound_state c ram dir d) d packet (view c ram dir) (send_paper r.answer)
   pub services : (c : Card) (ram dir : List ℕ) (d : Driver) (budget : ℕ) (look frame : List ℕ) (r : Serviced) (ram' dir' look' frame' : List ℕ)
       → Services c ram dir d budget look frame r ram' dir' look' frame'

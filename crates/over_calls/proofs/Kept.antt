@@ -1,9 +1,11 @@
 -- By the ways that a service ends. Assumes nothing.
+use Rattle.std.specs.Prelude.{Result, Ok, Err}
 use mathlib.Core.Path.{◌≡◌, refl, ap, sym, ◌∙◌, subst⁻¹}
 use mathlib.Core.Bool.{Bool, true, false, cond, not, ◌&&◌, ◌||◌}
 use mathlib.Core.List.{List, [], ◌∷◌}
 use Prim.Native.Nat.{ℕ, zero, suc, ◌/◌, ◌%◌, ◌+◌}
 use lib.Dec.{ltb, eqb}
+use Rattle.refusal.specs.declared.Refusal.{Refusal}
 use Rattle.refusal.specs.declared.Refusal.TheVariants.{CardUnfit, NeverOpened, AreaShort, BudgetShort}
 use Rattle.bits.proofs.Tests.{of_cond, never, by_test}
 use Rattle.card_rules.specs.declared.Card.{Card}
@@ -14,8 +16,8 @@ use Rattle.driver_rules.specs.declared.Driver.{Driver}
 use Rattle.driver_rules.specs.Registers.{unfit, tx_complete, rx_complete, bad, length_in}
 use Rattle.driver_rules.specs.Talk.{Talk, done, ask, run, read_words}
 use Rattle.driver_rules.specs.Driver.{with_error}
-use Rattle.driver_rules.specs.declared.Answer.TheVariants as serving
-use Rattle.driver_rules.specs.declared.Answer.{Answer}
+use Rattle.driver_rules.specs.declared.Item.TheVariants as serving
+use Rattle.driver_rules.specs.declared.Item.{Item}
 use Rattle.driver_rules.specs.Items.{Serving, plain, short, is_error, seen, reports, report_talk, idle_talk, fetch_talk, words_in}
 use Rattle.driver_rules.specs.Areas.{in_look, in_frame}
 use Rattle.driver_rules.specs.Service.{look_talk, receive_talk, drop_talk}
@@ -29,18 +31,18 @@ use Rattle.over_calls.specs.Kept.{Left, AsItCame, made, ARefusedServiceChangesNo
 use Rattle.over_calls.proofs.Few.{few}
 
 -- a refusal that changes nothing stops a service
-no_of : (x : Answer) (used : ℕ) → is_refused (service_paper x used) ≡ true → stopped x ≡ true
-no_of (serving.Reported t s) used e = never e
-no_of (serving.Status s) used e = never e
-no_of (serving.Frame n) used e = never e
-no_of serving.Idle used e = never e
-no_of (serving.Refused why) used e = refl
+no_of : (x : Result Item Refusal) (used : ℕ) → is_refused (service_paper x used) ≡ true → stopped x ≡ true
+no_of (Ok (serving.Reported t s)) used e = never e
+no_of (Ok (serving.Status s)) used e = never e
+no_of (Ok (serving.Frame n)) used e = never e
+no_of (Ok serving.Idle) used e = never e
+no_of (Err why) used e = refl
 
 -- refused, a service hands up nothing and leaves the driver; if it was begun and not short of budget, it was refused 5
 pub record Kept (d : Driver) (x : Serving) : Type 0 where
   driver : x.driver ≡ d
   bytes : x.bytes ≡ []
-  five : (used : ℕ) → is_refused (service_paper x.answer used) ≡ true → x.answer ≡ serving.Refused CardUnfit
+  five : (used : ℕ) → is_refused (service_paper x.answer used) ≡ true → x.answer ≡ Err CardUnfit
 
 abbrev P : Driver → Serving → Type 0
 P d x = stopped x.answer ≡ true → Kept d x
@@ -114,19 +116,19 @@ record Still (d : Driver) (x : Serving) : Type 0 where
   bytes : x.bytes ≡ []
 
 abbrev Q : Bool → Driver → Serving → Type 0
-Q begun d x = stopped x.answer ≡ true → Still d x × ((used : ℕ) → is_refused (service_paper x.answer used) ≡ true → begun ≡ true → x.answer ≡ serving.Refused CardUnfit)
+Q begun d x = stopped x.answer ≡ true → Still d x × ((used : ℕ) → is_refused (service_paper x.answer used) ≡ true → begun ≡ true → x.answer ≡ Err CardUnfit)
 
 whole : (s o l : Bool) (d : Driver) (budget : ℕ) (a : Adapter) → d.opened ≡ o → Q (s && (o && l)) d (run (service_call s l d budget) a).answer
 unfolding service_call run
 whole false o l d budget a e = λ y. (record { driver = refl; bytes = refl }, λ used z t. never t)
 whole true false l d budget a e =
-    subst⁻¹ (λ (v : Bool). Q false d (run (cond (not v) (done (plain (serving.Refused NeverOpened) d)) (cond (not l) (done (plain (serving.Refused AreaShort) d)) (look_talk budget d))) a).answer) e
+    subst⁻¹ (λ (v : Bool). Q false d (run (cond (not v) (done (plain (Err NeverOpened) d)) (cond (not l) (done (plain (Err AreaShort) d)) (look_talk budget d))) a).answer) e
     (λ y. (record { driver = refl; bytes = refl }, λ used z t. never t))
 whole true true false d budget a e =
-    subst⁻¹ (λ (v : Bool). Q false d (run (cond (not v) (done (plain (serving.Refused NeverOpened) d)) (done (plain (serving.Refused AreaShort) d))) a).answer) e
+    subst⁻¹ (λ (v : Bool). Q false d (run (cond (not v) (done (plain (Err NeverOpened) d)) (done (plain (Err AreaShort) d))) a).answer) e
     (λ y. (record { driver = refl; bytes = refl }, λ used z t. never t))
 whole true true true d budget a e =
-    subst⁻¹ (λ (v : Bool). Q true d (run (cond (not v) (done (plain (serving.Refused NeverOpened) d)) (look_talk budget d)) a).answer) e
+    subst⁻¹ (λ (v : Bool). Q true d (run (cond (not v) (done (plain (Err NeverOpened) d)) (look_talk budget d)) a).answer) e
     (λ y. let k = of_look d budget a y in (record { driver = k.driver; bytes = k.bytes }, λ used z t. k.five used z))
 
 -- what the run of a refused call leaves of driver and areas
@@ -134,7 +136,7 @@ module _ (c : Card) (ram dir : List ℕ) (d : Driver) (budget : ℕ) (look frame
   abbrev b : Bool
   b = sound_state c ram dir d && (d.opened && large look frame)
 
-  ran : stopped r.answer ≡ true → Still d (run (service_call (sound_state c ram dir d) (large look frame) d budget) (view c ram dir)).answer × ((used : ℕ) → is_refused (service_paper (run (service_call (sound_state c ram dir d) (large look frame) d budget) (view c ram dir)).answer.answer used) ≡ true → b ≡ true → (run (service_call (sound_state c ram dir d) (large look frame) d budget) (view c ram dir)).answer.answer ≡ serving.Refused CardUnfit)
+  ran : stopped r.answer ≡ true → Still d (run (service_call (sound_state c ram dir d) (large look frame) d budget) (view c ram dir)).answer × ((used : ℕ) → is_refused (service_paper (run (service_call (sound_state c ram dir d) (large look frame) d budget) (view c ram dir)).answer.answer used) ≡ true → b ≡ true → (run (service_call (sound_state c ram dir d) (large look frame) d budget) (view c ram dir)).answer.answer ≡ Err CardUnfit)
   ran y = whole (sound_state c ram dir d) d.opened (large look frame) d budget (view c ram dir) refl (ap stopped (sym k.answer) ∙ y)
 
   left : stopped r.answer ≡ true → Left d look frame r look' frame'
@@ -151,10 +153,10 @@ module _ (c : Card) (ram dir : List ℕ) (d : Driver) (budget : ℕ) (look frame
   as_it_came y =
       let n = no_of r.answer r.used y in
       let kept : (r.card ≡ c) × ((ram' ≡ ram) × (dir' ≡ dir)) =
-      by_test b (λ t. five_keeps c ram dir d budget look frame r ram' dir' look' frame' k t ((ran n).1 r.used (ap (λ (z : Answer). is_refused (service_paper z r.used)) (sym k.answer) ∙ y) t)) k.kept in
+      by_test b (λ t. five_keeps c ram dir d budget look frame r ram' dir' look' frame' k t ((ran n).1 r.used (ap (λ (z : Result Item Refusal). is_refused (service_paper z r.used)) (sym k.answer) ∙ y) t)) k.kept in
       record { card = kept.0; memory = kept.1.0; directory = kept.1.1; left = left n }
 
-  pub nothing-made : r.answer ≡ serving.Refused BudgetShort → discarded (made c ram dir d budget look frame) ≡ false → AsItCame c ram dir d look frame r ram' dir' look' frame'
+  pub nothing-made : r.answer ≡ Err BudgetShort → discarded (made c ram dir d budget look frame) ≡ false → AsItCame c ram dir d look frame r ram' dir' look' frame'
   nothing-made e n =
       let kept : (r.card ≡ c) × ((ram' ≡ ram) × (dir' ≡ dir)) = by_test b (λ t. (k.unmoved t).same (ap stopped (sym k.answer ∙ e)) n) k.kept in
       record { card = kept.0; memory = kept.1.0; directory = kept.1.1; left = left (ap stopped e) }

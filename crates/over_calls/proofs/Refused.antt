@@ -1,4 +1,5 @@
 -- Demand 1, call by call: a contract gives what is changed where the call is not refused, and that nothing is where it is. Assumes nothing.
+use Rattle.std.specs.Prelude.{Result, Ok, Err, ⊤}
 use mathlib.Core.Path.{◌≡◌, refl, sym, ap, ◌∙◌}
 use mathlib.Core.Bool.{Bool, true, false, cond, not}
 use mathlib.Core.List.{List}
@@ -26,10 +27,6 @@ use Rattle.driver_rules.specs.Open.{open_talk}
 use Rattle.driver_rules.specs.Open as opens
 use Rattle.driver_rules.specs.Send.{Sending, refuses, ticketed, send_talk}
 use Rattle.driver_rules.specs.Send as sends
-use Rattle.driver_rules.specs.declared.OpenAnswer.TheVariants as opening
-use Rattle.driver_rules.specs.declared.SendAnswer.TheVariants as sending
-use Rattle.driver_rules.specs.declared.OpenAnswer.{OpenAnswer}
-use Rattle.driver_rules.specs.declared.SendAnswer.{SendAnswer}
 use Rattle.driver_rules.specs.Paper.{open_paper, send_paper}
 use Rattle.driver_rules.specs.Calls.{sound_state, open_call, send_call}
 use Rattle.fits.specs.Agree.{is_refusal, is_refused}
@@ -72,13 +69,13 @@ card-keeps c ram dir =
 -- ---- the driver
 
 -- the paper's word for a refusal, and the code's
-open_refusing : (x : OpenAnswer) → is_refused (open_paper x) ≡ true → opens.refusing x ≡ true
-open_refusing opening.Done e = never e
-open_refusing (opening.Refused why) e = refl
+open_refusing : (x : Result ⊤ Refusal) → is_refused (open_paper x) ≡ true → opens.refusing x ≡ true
+open_refusing (Ok _) e = never e
+open_refusing (Err why) e = refl
 
-send-refusing : (x : SendAnswer) → is_refused (send_paper x) ≡ true → sends.refusing x ≡ true
-send-refusing (sending.Ticket n) e = never e
-send-refusing (sending.Refused why) e = refl
+send-refusing : (x : Result ℕ Refusal) → is_refused (send_paper x) ≡ true → sends.refusing x ≡ true
+send-refusing (Ok n) e = never e
+send-refusing (Err why) e = refl
 
 open_driver : (sound : Bool) (d : Driver) (w₀ w₁ w₂ : ℕ) (a : Adapter) → is_refused (open_paper (run (open_call sound d w₀ w₁ w₂) a).answer.answer) ≡ true → (run (open_call sound d w₀ w₁ w₂) a).answer.driver ≡ d
 unfolding open_call open_talk run

@@ -1,12 +1,11 @@
 -- Demand 2 for a host that needs no driver, over public calls, of which nothing is known but their contracts. Assumes nothing.
-use Rattle.std.specs.Prelude.{◌≡◌, true, List, [], ◌∷◌, ◌++◌, map, ℕ, ◌+◌, ◌/◌, length, take}
+use Rattle.std.specs.Prelude.{◌≡◌, true, List, [], ◌∷◌, ◌++◌, map, ℕ, ◌+◌, ◌/◌, length, take, Ok}
 use Rattle.store.specs.Store as store
 use Rattle.receive_rules.specs.Frame.{Frame}
 use Rattle.transmit_rules.specs.Tx.{ready}
 use Rattle.transmit_rules.specs.Whole.{bytes_of}
 use Rattle.card_rules.specs.Access.{WriteWord}
-use Rattle.card_rules.specs.declared.AfterRead.{AfterRead}
-use Rattle.card_rules.specs.declared.Read.TheVariants.{Value}
+use Rattle.card_rules.specs.declared.After.{After as AfterCard}
 use Rattle.card_rules.specs.CardContracts as contract
 use Rattle.driver_rules.specs.Registers.{data_port}
 use Rattle.runs.specs.Run.{Host, Earlier, Sent, Said, told}
@@ -34,7 +33,7 @@ pub record HostPacketsOverCalls : Type 0 where
 -- calls of read_word at the data port, one after the other, that answer these words
 pub data ReadsWords : State → List ℕ → Type 0 where
   none_read : (s : State) → ReadsWords s []
-  then_read : (s : State) (r : AfterRead) (v : ℕ) (vs : List ℕ) → contract.ReadsWord s.card s.ram s.dir data_port r → r.answer ≡ Value v
+  then_read : (s : State) (r : AfterCard ℕ) (v : ℕ) (vs : List ℕ) → contract.ReadsWord s.card s.ram s.dir data_port r → r.answer ≡ Ok v
       → ReadsWords (left r.card s.ram s.dir s.driver) vs → ReadsWords s (v ∷ vs)
 
 -- The words that the calls answer are the bytes of the oldest frame, two at a time.

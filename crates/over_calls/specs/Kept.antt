@@ -1,11 +1,10 @@
 -- Demand 1 of the driver's service: refused, but for 6, it leaves card, driver, memory and both areas just as they came; 6 leaves driver and areas, and with no discard made card and memory too. Assumes nothing.
-use Rattle.std.specs.Prelude.{◌≡◌, true, false, List, ℕ, ◌<◌}
+use Rattle.std.specs.Prelude.{◌≡◌, true, false, List, ℕ, ◌<◌, Err}
 use Rattle.card_rules.specs.declared.Card.{Card}
 use Rattle.card_rules.specs.View.{view}
 use Rattle.card_rules.specs.Access.{Access}
 use Rattle.driver_rules.specs.declared.Driver.{Driver}
 use Rattle.driver_rules.specs.declared.Serviced.{Serviced}
-use Rattle.driver_rules.specs.declared.Answer.TheVariants as serving
 use Rattle.refusal.specs.declared.Refusal.TheVariants.{BudgetShort}
 use Rattle.driver_rules.specs.Talk.{run}
 use Rattle.driver_rules.specs.Serves.{discarded}
@@ -40,12 +39,12 @@ made c ram dir d budget look frame = (run (service_call (sound_state c ram dir d
 abbrev pub AServiceShortOfBudgetLeavesDriverAndAreas : Type 0
 AServiceShortOfBudgetLeavesDriverAndAreas =
     (c : Card) (ram dir : List ℕ) (d : Driver) (budget : ℕ) (look frame : List ℕ) (r : Serviced) (ram' dir' look' frame' : List ℕ) →
-    Services c ram dir d budget look frame r ram' dir' look' frame' → r.answer ≡ serving.Refused BudgetShort → Left d look frame r look' frame'
+    Services c ram dir d budget look frame r ram' dir' look' frame' → r.answer ≡ Err BudgetShort → Left d look frame r look' frame'
     × (discarded (made c ram dir d budget look frame) ≡ false → AsItCame c ram dir d look frame r ram' dir' look' frame')
 
 -- A discard is the third access at the earliest: with a budget below 3, answer 6 changes nothing.
 abbrev pub AServiceShortOfABudgetBelow3ChangesNothing : Type 0
 AServiceShortOfABudgetBelow3ChangesNothing =
     (c : Card) (ram dir : List ℕ) (d : Driver) (budget : ℕ) (look frame : List ℕ) (r : Serviced) (ram' dir' look' frame' : List ℕ) →
-    Services c ram dir d budget look frame r ram' dir' look' frame' → r.answer ≡ serving.Refused BudgetShort → budget < 3 →
+    Services c ram dir d budget look frame r ram' dir' look' frame' → r.answer ≡ Err BudgetShort → budget < 3 →
     AsItCame c ram dir d look frame r ram' dir' look' frame'

@@ -1,4 +1,5 @@
 -- On a good state a contract of the card goes by the call's own test, and so does the run's event. Assumes nothing.
+use Rattle.std.specs.Prelude.{⊤}
 use mathlib.Core.Path.{◌≡◌, refl, ap, ◌∙◌}
 use mathlib.Core.Bool.{Bool, true, false, cond, not, ◌&&◌}
 use mathlib.Core.List.{List, [], ◌∷◌}
@@ -19,9 +20,7 @@ use Rattle.card_rules.specs.View.{view, sound_card}
 use Rattle.card_rules.proofs.Sides.{registers_of}
 use Rattle.card_rules.specs.Access.{ReadWord, ReadByte, WriteWord, WriteByte, access}
 use Rattle.card_rules.specs.Event as event
-use Rattle.card_rules.specs.declared.AfterRead.{AfterRead}
-use Rattle.card_rules.specs.declared.AfterCall.{AfterCall}
-use Rattle.card_rules.specs.declared.AfterSuccess.{AfterSuccess}
+use Rattle.card_rules.specs.declared.After.{After as AfterCard}
 use Rattle.card_rules.specs.Calls as card
 use Rattle.card_rules.specs.Calls.{Reply, done, value, judged, replying, Does, Call, Area, read_reply, done_reply, told_reply, is_word, is_byte, on_wire, off_wire}
 use Rattle.card_rules.specs.CardContracts as contract
@@ -80,45 +79,45 @@ module _ (s : State) (g : Good s) where
 
   -- ---- a call that answers done, with its own refusal 11
 
-  record Done (ok : Bool) (b : Adapter) (r : AfterCall) (ram dir : List ℕ) : Type 0 where
+  record Done (ok : Bool) (b : Adapter) (r : AfterCard ⊤) (ram dir : List ℕ) : Type 0 where
     leaves : seen (left r.card ram dir s.driver) ≡ record { adapter = cond ok b a; driver = s.driver }
     answers : says_done (done_reply r.answer) ≡ run.refusing ok
     good : Good (left r.card ram dir s.driver)
 
-  does : (ok : Bool) (b : Adapter) (r : AfterCall) (ram dir : List ℕ) → Call (judged test ok 11) (done_reply r.answer) done c r.card s.ram s.dir ram dir b → Done ok b r ram dir
+  does : (ok : Bool) (b : Adapter) (r : AfterCard ⊤) (ram dir : List ℕ) → Call (judged test ok 11) (done_reply r.answer) done c r.card s.ram s.dir ram dir b → Done ok b r ram dir
   does ok b r ram dir h =
       let q = goes ok 10 (done_reply r.answer) done r.card ram dir b h in
       record { leaves = λ i. record { adapter = q.shows i; driver = s.driver }; answers = ap says_done q.reply ∙ says-done ok 11; good = good-after r.card ram dir q.fits }
 
-  pub wire-starts : (first : List ℕ) (eight : length first ≡ 8) (r : AfterCall) (ram dir : List ℕ) → contract.WireStart s.card s.ram s.dir first r ram dir
+  pub wire-starts : (first : List ℕ) (eight : length first ≡ 8) (r : AfterCard ⊤) (ram dir : List ℕ) → contract.WireStart s.card s.ram s.dir first r ram dir
       → Stepping (run.Start first eight) s (left r.card ram dir s.driver) (says_done (done_reply r.answer))
   unfolding next said view
   wire-starts first eight r ram dir h =
       let q = does (off_wire c.receive.receiver.wire) (event.wire_start first a) r ram dir h in
       record { leaves = q.leaves; answers = q.answers; good = q.good }
 
-  pub wire_brings : (v : ℕ) (r : AfterCall) (ram dir : List ℕ) → contract.WireByte s.card s.ram s.dir v r ram dir
+  pub wire_brings : (v : ℕ) (r : AfterCard ⊤) (ram dir : List ℕ) → contract.WireByte s.card s.ram s.dir v r ram dir
       → Stepping (run.Byte v) s (left r.card ram dir s.driver) (says_done (done_reply r.answer))
   unfolding next said view
   wire_brings v r ram dir h =
       let q = does (on_wire c.receive.receiver.wire) (event.wire_byte v a) r ram dir h in
       record { leaves = q.leaves; answers = q.answers; good = q.good }
 
-  pub wire-ends : (check alignment : Bool) (r : AfterCall) (ram dir : List ℕ) → contract.WireEnd s.card s.ram s.dir check alignment r ram dir
+  pub wire-ends : (check alignment : Bool) (r : AfterCard ⊤) (ram dir : List ℕ) → contract.WireEnd s.card s.ram s.dir check alignment r ram dir
       → Stepping (run.End check alignment) s (left r.card ram dir s.driver) (says_done (done_reply r.answer))
   unfolding next said view
   wire-ends check alignment r ram dir h =
       let q = does (on_wire c.receive.receiver.wire) (event.wire_end check alignment a) r ram dir h in
       record { leaves = q.leaves; answers = q.answers; good = q.good }
 
-  pub collides : (r : AfterCall) (ram dir : List ℕ) → contract.Collisions s.card s.ram s.dir r ram dir
+  pub collides : (r : AfterCard ⊤) (ram dir : List ℕ) → contract.Collisions s.card s.ram s.dir r ram dir
       → Stepping run.Collided s (left r.card ram dir s.driver) (says_done (done_reply r.answer))
   unfolding next said
   collides r ram dir h =
       let q = does (ready a.tx) (event.collisions a) r ram dir h in
       record { leaves = q.leaves; answers = q.answers; good = q.good }
 
-  pub succeeds : (out out' : List ℕ) (r : AfterSuccess) (ram dir : List ℕ) → contract.Success s.card s.ram s.dir r ram dir → contract.SuccessArea s.card s.ram s.dir out out'
+  pub succeeds : (out out' : List ℕ) (r : AfterCard ℕ) (ram dir : List ℕ) → contract.Success s.card s.ram s.dir r ram dir → contract.SuccessArea s.card s.ram s.dir out out'
       → Stepping run.Sent s (left r.card ram dir s.driver) (says_told out' (told_reply r.answer))
   unfolding next said
   succeeds out out' r ram dir h area =
@@ -141,25 +140,25 @@ module _ (s : State) (g : Good s) where
       let q = goes ok k x w r ram dir b h in
       record { leaves = λ i. record { adapter = q.shows i; driver = s.driver }; good = good-after r ram dir q.fits }
 
-  pub reads_word : (o : ℕ) (r : AfterRead) → contract.ReadsWord s.card s.ram s.dir o r → Before (Host (ReadWord o)) s (left r.card s.ram s.dir s.driver)
+  pub reads_word : (o : ℕ) (r : AfterCard ℕ) → contract.ReadsWord s.card s.ram s.dir o r → Before (Host (ReadWord o)) s (left r.card s.ram s.dir s.driver)
   unfolding before permitted
   reads_word o r h =
       let q = hosts (is_word o) 11 (access (ReadWord o) a).adapter (read_reply r.answer) _ r.card s.ram s.dir h in
       record { leaves = q.leaves; good = q.good }
 
-  pub reads_byte : (o : ℕ) (r : AfterRead) → contract.ReadsByte s.card s.ram s.dir o r → Before (Host (ReadByte o)) s (left r.card s.ram s.dir s.driver)
+  pub reads_byte : (o : ℕ) (r : AfterCard ℕ) → contract.ReadsByte s.card s.ram s.dir o r → Before (Host (ReadByte o)) s (left r.card s.ram s.dir s.driver)
   unfolding before permitted view
   reads_byte o r h =
       let q = hosts (is_byte c.select.window o) 11 (access (ReadByte o) a).adapter (read_reply r.answer) _ r.card s.ram s.dir h in
       record { leaves = q.leaves; good = q.good }
 
-  pub writes-word : (o v : ℕ) (r : AfterCall) (ram dir : List ℕ) → contract.WritesWord s.card s.ram s.dir o v r ram dir → Before (Host (WriteWord o v)) s (left r.card ram dir s.driver)
+  pub writes-word : (o v : ℕ) (r : AfterCard ⊤) (ram dir : List ℕ) → contract.WritesWord s.card s.ram s.dir o v r ram dir → Before (Host (WriteWord o v)) s (left r.card ram dir s.driver)
   unfolding before permitted
   writes-word o v r ram dir h =
       let q = hosts (is_word o) 11 (access (WriteWord o v) a).adapter (done_reply r.answer) done r.card ram dir h in
       record { leaves = q.leaves; good = q.good }
 
-  pub writes_byte : (o v : ℕ) (r : AfterCall) (ram dir : List ℕ) → contract.WritesByte s.card s.ram s.dir o v r ram dir → Before (Host (WriteByte o v)) s (left r.card ram dir s.driver)
+  pub writes_byte : (o v : ℕ) (r : AfterCard ⊤) (ram dir : List ℕ) → contract.WritesByte s.card s.ram s.dir o v r ram dir → Before (Host (WriteByte o v)) s (left r.card ram dir s.driver)
   unfolding before permitted view
   writes_byte o v r ram dir h =
       let q = hosts (is_byte c.select.window o) 11 (access (WriteByte o v) a).adapter (done_reply r.answer) done r.card ram dir h in
@@ -169,19 +168,19 @@ module _ (s : State) (g : Good s) where
   unfolding view
   id_sound_call = (both (id_sound c.id) (not c.id.due && select_sound c.select) (registers_of a (sound_of s g).calm)).0
 
-  seats : (j : IdState) (r : AfterCall) → id_sound j ≡ true → contract.Seat s.card s.ram s.dir j r → Hosted true (event.seat j a) r.card s.ram s.dir
+  seats : (j : IdState) (r : AfterCard ⊤) → id_sound j ≡ true → contract.Seat s.card s.ram s.dir j r → Hosted true (event.seat j a) r.card s.ram s.dir
   seats j r y h =
       let q = hosts (id_sound j) 0 (event.seat j a) (done_reply r.answer) done r.card s.ram s.dir h in
       record { leaves = q.leaves ∙ ap (λ (t : Bool). record { adapter = cond t (event.seat j a) a; driver = s.driver }) y; good = q.good }
 
-  pub seats_written : (p : ℕ) (small : p < 16) (byte : ℕ) (r : AfterCall) → contract.Seat s.card s.ram s.dir (id_write s.card.id p byte) r
+  pub seats_written : (p : ℕ) (small : p < 16) (byte : ℕ) (r : AfterCard ⊤) → contract.Seat s.card s.ram s.dir (id_write s.card.id p byte) r
       → Before (IdWrite p small byte) s (left r.card s.ram s.dir s.driver)
   unfolding before view
   seats_written p small byte r h =
       let q = seats (id_write c.id p byte) r (every_step_keeps_soundness_lem.writes c.id p byte small id_sound_call) h in
       record { leaves = q.leaves; good = q.good }
 
-  pub seats_read : (p : ℕ) (small : p < 16) (bus : ℕ) (r : AfterCall) → contract.Seat s.card s.ram s.dir (id_after_read s.card.id p bus) r
+  pub seats_read : (p : ℕ) (small : p < 16) (bus : ℕ) (r : AfterCard ⊤) → contract.Seat s.card s.ram s.dir (id_after_read s.card.id p bus) r
       → Before (IdRead p small bus) s (left r.card s.ram s.dir s.driver)
   unfolding before view
   seats_read p small bus r h =

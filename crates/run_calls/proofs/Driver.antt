@@ -1,4 +1,5 @@
 -- On a sound card and driver a call's contract speaks of the run that the event stands for. A refused call leaves the card, and so does its run: reads of Status and TX Free change nothing of what is settled. Assumes nothing.
+use Rattle.std.specs.Prelude.{⊤}
 use mathlib.Core.Path.{◌≡◌, refl, sym, ap, subst⁻¹, ◌∙◌}
 use mathlib.Core.Bool.{Bool, true, false, not, ◌&&◌}
 use mathlib.Core.List.{List, [], ◌∷◌}
@@ -25,11 +26,10 @@ use Rattle.driver_rules.proofs.Runs.{writes_law}
 use Rattle.driver_rules.specs.Areas.{in_look, in_frame}
 use Rattle.driver_rules.specs.Items.{Serving}
 use Rattle.driver_rules.specs.declared.Serviced.{Serviced}
-use Rattle.driver_rules.specs.declared.Opened.{Opened}
+use Rattle.driver_rules.specs.declared.After.{After}
 use Rattle.driver_rules.specs.Open as opens
 use Rattle.driver_rules.specs.Open.{open_talk}
 use Rattle.driver_rules.specs.Opens as inner_open
-use Rattle.driver_rules.specs.declared.Sent.{Sent}
 use Rattle.driver_rules.specs.Send as sends
 use Rattle.driver_rules.specs.Packet.{outside, packet_words}
 use Rattle.driver_rules.specs.Send.{Sending, ticketed, send_talk}
@@ -145,7 +145,7 @@ module _ (s : State) (g : Good s) where
   unfolding open_talk run
   open_driver w₀ w₁ w₂ = driver_of_lem s g
 
-  pub open_steps : (w₀ w₁ w₂ : ℕ) (t : Bool) (r : Opened) (ram dir : List ℕ) → t ≡ true → inner_open.Opens (run (open_call t d w₀ w₁ w₂) a) s.card s.ram s.dir r ram dir
+  pub open_steps : (w₀ w₁ w₂ : ℕ) (t : Bool) (r : After ⊤) (ram dir : List ℕ) → t ≡ true → inner_open.Opens (run (open_call t d w₀ w₁ w₂) a) s.card s.ram s.dir r ram dir
       → Stepping (runs.Open w₀ w₁ w₂) s (left r.card ram dir r.driver) (runs.answered (open_paper r.answer) ∷ [])
   unfolding next said runs.opens open_call
   open_steps w₀ w₁ w₂ true r ram dir e k =
@@ -157,7 +157,7 @@ module _ (s : State) (g : Good s) where
       }
   open_steps w₀ w₁ w₂ false r ram dir e k = never e
 
-  pub send_steps : (packet : List ℕ) (t : Bool) (r : Sent) (ram dir : List ℕ) → t ≡ true → inner_send.Sends (run (send_call t d packet) a) s.card s.ram s.dir r ram dir
+  pub send_steps : (packet : List ℕ) (t : Bool) (r : After ℕ) (ram dir : List ℕ) → t ≡ true → inner_send.Sends (run (send_call t d packet) a) s.card s.ram s.dir r ram dir
       → Stepping (runs.Send packet) s (left r.card ram dir r.driver) (runs.answered (send_paper r.answer) ∷ [])
   unfolding next said runs.sends send_call
   send_steps packet true r ram dir e k =

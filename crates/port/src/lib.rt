@@ -11,11 +11,7 @@ mod lend; // lend.rt: the cards that are there, lent as a slice
 pub fn port_write(b: Bus, port: u16, byte: u8) -> After<()>
     ensures { contract.PortWrite b port byte result }
 {
-    let (bus, answer) = lend::call(
-        b,
-        |cards| lent_port::write(cards, port, byte),
-        |why| Err(why),
-    );
+    let (bus, answer) = lend::call(b, |cards| lent_port::write(cards, port, byte), Err);
     After { bus, answer }
 }
 
@@ -23,7 +19,7 @@ pub fn port_write(b: Bus, port: u16, byte: u8) -> After<()>
 pub fn port_read(b: Bus, port: u16) -> After<u8>
     ensures { contract.PortRead b port result }
 {
-    let (bus, answer) = lend::call(b, |cards| lent_port::read(cards, port), |why| Err(why));
+    let (bus, answer) = lend::call(b, |cards| lent_port::read(cards, port), Err);
     After { bus, answer }
 }
 
@@ -51,10 +47,6 @@ pub fn find_cards(b: Bus, port: u16) -> AfterSearch
 pub fn activate_card(b: Bus, port: u16, tag: u8, base: u8) -> After<usize>
     ensures { contract.ActivateCard b port tag base result }
 {
-    let (bus, answer) = lend::call(
-        b,
-        |cards| lent_port::activate(cards, port, tag, base),
-        |why| Err(why),
-    );
+    let (bus, answer) = lend::call(b, |cards| lent_port::activate(cards, port, tag, base), Err);
     After { bus, answer }
 }

@@ -8,12 +8,13 @@ use native.Mathlib.Omega.{arith}
 use borrow.Author.Tests.{eqb-true, not-true, lt-ltb, le-ltb}
 use lib.ListN.{length}
 use lib.Dec.{eqb}
+use Rattle.std.specs.Prelude.{Ok, Err}
 use Rattle.refusal.specs.declared.Refusal.{Refusal}
 use Rattle.refusal.specs.declared.Refusal.TheVariants.{ArgumentOutside}
 use Rattle.catalogue_rules.specs.Field.{Field, field, number_at, fields_of, left_of}
 use Rattle.catalogue_rules.specs.declared.Turn.{Turn}
 use Rattle.catalogue_rules.specs.declared.Turn.TheVariants.{Begun, Damaged}
-use Rattle.catalogue_rules.specs.declared.Judged.TheVariants.{Sound, Refused}
+use Rattle.catalogue_rules.specs.declared.Counts.{Counts}
 use Rattle.catalogue_rules.specs.Turns.{address_of, after_address, after_number, after_image, after, is_damaged}
 use Rattle.catalogue_rules.specs.Reading.{Reading, catalogue, refused, addresses_of, read, judged}
 use Rattle.catalogue_rules.specs.Cards.{Version, Card, cards_of}
@@ -25,7 +26,6 @@ use Rattle.catalogue_rules.proofs.Fit.{accepted_is_well_formed_lem}
 use Rattle.catalogue_rules.proofs.Accepted.{from-append, was_read_lem}
 use Rattle.catalogue_rules.specs.Archive.{row_of, images_of, moved_out}
 use Rattle.catalogue_rules.specs.Edit.{on_catalogue, bytes, no, exported}
-use Rattle.catalogue_rules.specs.declared.Written as answer
 use Rattle.catalogue_row.specs.Row.{Images}
 use Rattle.catalogue_rules.specs.PutContracts.{Writes}
 use Rattle.catalogue_rules.proofs.Changes.{or_else_lem, or_on, refusing}
@@ -81,9 +81,9 @@ module _ (area : ℕ) (room : 8192 ≤ area) where
   pub exported_fields : (file : List ℕ) (fs : List Field) → read file ≡ catalogue fs → exported area file ≡ bytes (moved_out fs)
   exported_fields file fs e = exported_of file ∙ ap (λ (r : Reading). on_catalogue r (λ fs. bytes (moved_out fs))) e
 
-  fitting_if : (file : List ℕ) → law.Bytes file → (r : Reading) → read file ≡ r → (c k : ℕ) → Sound c k ≡ judged r → Fitting area file
-  fitting_if file b (refused why) q c k e = let z : ◌≡◌ {A = ℕ} 0 1 = cc in absurd (omega arith)
-  fitting_if file b (catalogue fs) q c k e =
+  fitting_if : (file : List ℕ) → law.Bytes file → (r : Reading) → read file ≡ r → (told : Counts) → Ok told ≡ judged r → Fitting area file
+  fitting_if file b (refused why) q told e = let z : ◌≡◌ {A = ℕ} 0 1 = cc in absurd (omega arith)
+  fitting_if file b (catalogue fs) q told e =
       let w : WellFormed fs = accepted_is_well_formed_lem file fs b q in
       let m : Came 0 (fields_of file) (left_of file) fs = came (fields_of file) Begun 0 (left_of file) fs (was_read_lem file fs q) in
       let a : length (addresses_of (fields_of file)) ≡ length (addresses_of fs) = ap length (same_addresses (fields_of file) Begun 0 (left_of file) fs (was_read_lem file fs q)) in
@@ -95,20 +95,20 @@ module _ (area : ℕ) (room : 8192 ≤ area) where
             ∙ ap (λ (cards : List Card). bytes (row_of (images_of cards))) (sym (cards-append fs m.value) ∙ ap cards_of (sym m.are));
       }
 
-  pub fitting : (file : List ℕ) → law.Bytes file → (c k : ℕ) → Sound c k ≡ judged (read file) → Fitting area file
-  fitting file b c k e = fitting_if file b (read file) refl c k e
+  pub fitting : (file : List ℕ) → law.Bytes file → {told : Counts} → Ok told ≡ judged (read file) → Fitting area file
+  fitting file b {told} e = fitting_if file b (read file) refl told e
 
-  damaged-if : (r : Reading) (why : Refusal) → Refused why ≡ judged r → on_catalogue r (λ fs. bytes (moved_out fs)) ≡ no why
+  damaged-if : (r : Reading) (why : Refusal) → Err why ≡ judged r → on_catalogue r (λ fs. bytes (moved_out fs)) ≡ no why
   damaged-if (catalogue fs) why e = let z : ◌≡◌ {A = ℕ} 0 1 = cc in absurd (omega arith)
   damaged-if (refused other) why e = let q : other ≡ why = cc in ap no q
 
-  not-exported : (file : List ℕ) (why : Refusal) → Refused why ≡ judged (read file) → exported area file ≡ no why
+  not-exported : (file : List ℕ) (why : Refusal) → Err why ≡ judged (read file) → exported area file ≡ no why
   not-exported file why e = exported_of file ∙ damaged-if (read file) why e
 
 module _ (out file : List ℕ) where
-  pub narrow : length out < 8192 → Writes (exported (length out) file) (answer.TheVariants.Refused ArgumentOutside) out out
+  pub narrow : length out < 8192 → Writes (exported (length out) file) (Err ArgumentOutside) out out
   unfolding exported
   narrow h = refusing _ _ (or_else_lem _ _ _ (lt-ltb (length out) 8192 h)) out
 
-  pub damaged : 8192 ≤ length out → (why : Refusal) → Refused why ≡ judged (read file) → Writes (exported (length out) file) (answer.TheVariants.Refused why) out out
+  pub damaged : 8192 ≤ length out → (why : Refusal) → Err why ≡ judged (read file) → Writes (exported (length out) file) (Err why) out out
   damaged h why e = refusing _ _ (not-exported (length out) h file why e) out

@@ -7,10 +7,11 @@ use mathlib.Core.List.{List, [], ◌∷◌, ◌++◌}
 use native.Mathlib.Omega.{arith}
 use lib.ListN.{length, take, drop, length-drop, take-append-drop}
 use lib.Seq.{take_at}
+use Rattle.std.specs.Prelude.{Result, Ok, Err}
+use Rattle.std.specs.List.{list_any}
 use Rattle.refusal.specs.declared.Refusal.{Refusal}
 use Rattle.refusal.specs.declared.Refusal.TheVariants.{MakerWrong, ChecksumWrong, SecondaryWrong}
-use Rattle.image_rules.specs.declared.Checked as checked
-use Rattle.image_rules.specs.declared.Checked.{Checked}
+use Rattle.image_rules.specs.declared.Node.{Node}
 use Rattle.image_rules.specs.Image.{check_of}
 use Rattle.catalogue_rules.specs.Reading.{catalogue, read, file_of, any_twice}
 use Rattle.catalogue_rules.specs.Archive.{row_of, moved_in, moved_out, is_sound, AllSound, addresses_in, BackAsItCame}
@@ -18,6 +19,7 @@ use Rattle.catalogue_rules.proofs.OutAfter.{out_after_in_lem}
 use Rattle.catalogue_rules.specs.Edit.{Change, bytes, images_within, images_in, is_for, any_for, imported, exported}
 use Rattle.catalogue_rules.specs.Put.{answer_of, area_after}
 use Rattle.catalogue_row.specs.Back.{out_again, ComesBack, RowComesBack}
+use Rattle.catalogue_row.proofs.Each.{any_refused}
 use Rattle.catalogue_row.proofs.Ways.{sound}
 use Rattle.catalogue_row.proofs.Fitting.{exported_fields}
 
@@ -36,9 +38,9 @@ count-within zero row = refl
 count-within (suc n) row = ap suc (count-within n (drop 128 row))
 
 -- All sound: none is refused for any reason.
-not_for : (why : Refusal) (k : Checked) (rest : Bool) → is_sound k ≡ true → rest ≡ false → is_for why k || rest ≡ false
-not_for why (checked.TheVariants.Sound n0 n1 n2) rest e h = h
-not_for why (checked.TheVariants.Refused other) rest e h = absurd (false≢true e)
+not_for : (why : Refusal) (k : Result Node Refusal) (rest : Bool) → is_sound k ≡ true → rest ≡ false → is_for why k || rest ≡ false
+not_for why (Ok node) rest e h = h
+not_for why (Err other) rest e h = absurd (false≢true e)
 
 none_for : (why : Refusal) (images : List (List ℕ)) → AllSound images → any_for why images ≡ false
 unfolding AllSound any_for
@@ -50,11 +52,13 @@ module _ (row area out : List ℕ) (even : length row % 128 ≡ 0) (few : length
   file : List ℕ
   file = file_of (moved_in (images_in row))
 
+  none_refused : (why : Refusal) → false ≡ list_any (λ image. is_for why (check_of image)) (images_in row)
+  none_refused why = sym (any_refused why (images_in row) ∙ none_for why (images_in row) all)
+
   goes_in : imported (length area) row ≡ bytes file
-  unfolding images_in file
+  unfolding file
   goes_in =
-      sound area row fits even few false (sym apart) refl false (sym (none_for MakerWrong (images_in row) all)) refl false (sym (none_for ChecksumWrong (images_in row) all)) refl false
-      (sym (none_for SecondaryWrong (images_in row) all)) refl
+      sound area row fits even few refl (sym apart) refl (none_refused MakerWrong) refl (none_refused ChecksumWrong) refl (none_refused SecondaryWrong) refl
 
   back : BackAsItCame (images_in row)
   unfolding images_in

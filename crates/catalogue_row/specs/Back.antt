@@ -1,10 +1,9 @@
 -- Out after in, through the two calls: an archive that `import` moves in comes back from `export` byte for byte.
 -- Assumes nothing.
-use Rattle.std.specs.Prelude.{ℕ, ◌+◌, ◌*◌, ◌/◌, ◌%◌, ◌≤◌, ◌≡◌, false, List, length, take}
+use Rattle.std.specs.Prelude.{ℕ, ◌+◌, ◌*◌, ◌/◌, ◌%◌, ◌≤◌, ◌≡◌, false, List, length, take, Ok}
 use Rattle.catalogue_rules.specs.Reading.{any_twice}
 use Rattle.catalogue_rules.specs.Archive.{AllSound, addresses_in}
 use Rattle.catalogue_rules.specs.Edit.{Change, images_in, imported, exported}
-use Rattle.catalogue_rules.specs.declared.Written.TheVariants.{Bytes}
 use Rattle.catalogue_rules.specs.Put.{answer_of, area_after}
 
 -- The first n bytes that an import left in its area, exported.
@@ -14,8 +13,8 @@ out_again row area out n = exported (length out) (take n (area_after (imported (
 -- The import answers how many bytes its file has; the export of these answers the archive's length and leaves its bytes.
 pub record ComesBack (row area out : List ℕ) : Type 0 where
   pub n : ℕ
-  pub moved_in : answer_of (imported (length area) row) ≡ Bytes n
-  pub written_out : answer_of (out_again row area out n) ≡ Bytes (length row)
+  pub moved_in : answer_of (imported (length area) row) ≡ Ok n
+  pub written_out : answer_of (out_again row area out n) ≡ Ok (length row)
   pub same : take (length row) (area_after (out_again row area out n) out) ≡ row
 
 -- For whole images, at most 64, all sound, with addresses that differ, and areas that suffice.

@@ -2,6 +2,8 @@
 -- Assumes nothing.
 use native.Mathlib.Omega.{arith}
 use Rattle.catalogue_rules.proofs.Changes.{writing}
+use mathlib.Core.Path.{◌∙◌}
+use Rattle.catalogue_row.proofs.Each.{chunks_are, none_left, some_left}
 use Rattle.catalogue_row.proofs.Ways.{short, ragged, crowded, listed_twice_lem, wrong_maker, wrong_checksum, wrong_secondary, sound}
 use Rattle.catalogue_row.proofs.import.Goals as goal
 
@@ -11,30 +13,31 @@ returns-then-out-n c = short c.args.out.now c.args.archive.now (omega arith)
 pub returns-then-out-n-lt5 : goal.returns-then-out-n-lt5
 returns-then-out-n-lt5 c = short c.args.out.now c.args.archive.now (omega arith)
 
-pub returns-then-archive-ne0 : goal.returns-then-archive-ne0
-returns-then-archive-ne0 c = ragged c.args.out.now c.args.archive.now (omega arith) c.if-archive-ne0.true
+pub returns-then-not-is_empty : goal.returns-then-not-is_empty
+returns-then-not-is_empty c =
+    ragged c.args.out.now c.args.archive.now (omega arith) (some_left c.is_empty.ensures c.as_chunks.ensures.back_len c.if-not-is_empty.true)
 
 pub returns-then-n-gt64 : goal.returns-then-n-gt64
 returns-then-n-gt64 c =
-    crowded c.args.out.now c.args.archive.now (omega arith) (omega arith) (omega arith)
+    crowded c.args.out.now c.args.archive.now (omega arith) (none_left c.is_empty.ensures c.as_chunks.ensures.back_len c.if-not-is_empty.false) (omega arith)
 
 pub returns-then-any_twice : goal.returns-then-any_twice
 returns-then-any_twice c =
-    listed_twice_lem c.args.out.now c.args.archive.now (omega arith) (omega arith) (omega arith) _ c.any_twice.ensures c.if-any_twice.true
+    listed_twice_lem c.args.out.now c.args.archive.now (omega arith) (none_left c.is_empty.ensures c.as_chunks.ensures.back_len c.if-not-is_empty.false) (omega arith) (c.as_chunks.ensures.front ∙ chunks_are c.args.archive.now) c.any_twice.ensures c.if-any_twice.true
 
 pub returns-then-any_for : goal.returns-then-any_for
 returns-then-any_for c =
-    wrong_maker c.args.out.now c.args.archive.now (omega arith) (omega arith) (omega arith) _ c.any_twice.ensures c.if-any_twice.false _ c.any_for.ensures c.if-any_for.true
+    wrong_maker c.args.out.now c.args.archive.now (omega arith) (none_left c.is_empty.ensures c.as_chunks.ensures.back_len c.if-not-is_empty.false) (omega arith) (c.as_chunks.ensures.front ∙ chunks_are c.args.archive.now) c.any_twice.ensures c.if-any_twice.false c.any_for.ensures c.if-any_for.true
 
 pub returns-then-any_for-2 : goal.returns-then-any_for-2
 returns-then-any_for-2 c =
-    wrong_checksum c.args.out.now c.args.archive.now (omega arith) (omega arith) (omega arith) _ c.any_twice.ensures c.if-any_twice.false _ c.any_for.ensures c.if-any_for.false _ c.any_for-2.ensures c.if-any_for-2.true
+    wrong_checksum c.args.out.now c.args.archive.now (omega arith) (none_left c.is_empty.ensures c.as_chunks.ensures.back_len c.if-not-is_empty.false) (omega arith) (c.as_chunks.ensures.front ∙ chunks_are c.args.archive.now) c.any_twice.ensures c.if-any_twice.false c.any_for.ensures c.if-any_for.false c.any_for-2.ensures c.if-any_for-2.true
 
 pub returns-then-any_for-3 : goal.returns-then-any_for-3
 returns-then-any_for-3 c =
-    wrong_secondary c.args.out.now c.args.archive.now (omega arith) (omega arith) (omega arith) _ c.any_twice.ensures c.if-any_twice.false _ c.any_for.ensures c.if-any_for.false _ c.any_for-2.ensures c.if-any_for-2.false _ c.any_for-3.ensures c.if-any_for-3.true
+    wrong_secondary c.args.out.now c.args.archive.now (omega arith) (none_left c.is_empty.ensures c.as_chunks.ensures.back_len c.if-not-is_empty.false) (omega arith) (c.as_chunks.ensures.front ∙ chunks_are c.args.archive.now) c.any_twice.ensures c.if-any_twice.false c.any_for.ensures c.if-any_for.false c.any_for-2.ensures c.if-any_for-2.false c.any_for-3.ensures c.if-any_for-3.true
 
 pub returns : goal.returns
 returns c =
-    writing _ _ (sound c.args.out.now c.args.archive.now (omega arith) (omega arith) (omega arith) _ c.any_twice.ensures c.if-any_twice.false _ c.any_for.ensures c.if-any_for.false _ c.any_for-2.ensures c.if-any_for-2.false _ c.any_for-3.ensures c.if-any_for-3.false)
+    writing _ _ (sound c.args.out.now c.args.archive.now (omega arith) (none_left c.is_empty.ensures c.as_chunks.ensures.back_len c.if-not-is_empty.false) (omega arith) (c.as_chunks.ensures.front ∙ chunks_are c.args.archive.now) c.any_twice.ensures c.if-any_twice.false c.any_for.ensures c.if-any_for.false c.any_for-2.ensures c.if-any_for-2.false c.any_for-3.ensures c.if-any_for-3.false)
     _ _ _ c.cards.ensures.0 c.cards.ensures.1

@@ -6,8 +6,8 @@ use lib.ListN.{length}
 use Rattle.catalogue_row.proofs.Outward.{Going}
 use Rattle.catalogue_row.proofs.latest.row.Given as goal
 
-abbrev pub invariant-loop-tag : goal.invariant-loop-tag
-invariant-loop-tag l = Going l.file l.initial.out l.out l.at l.to
+abbrev pub invariant-loop-f : goal.invariant-loop-f
+invariant-loop-f l = Going l.file l.initial.out l.out l.at l.to
 
-abbrev pub decreases-loop-tag : goal.decreases-loop-tag
-decreases-loop-tag l = length l.file - l.at
+abbrev pub decreases-loop-f : goal.decreases-loop-f
+decreases-loop-f l = length l.file - l.at

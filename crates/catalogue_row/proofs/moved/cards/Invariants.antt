@@ -1,11 +1,9 @@
--- `moved::cards` meets its contract. The invariant: what is still to be put makes the whole file, and there is room for it.
--- The measure is how many images are left.
+-- `moved::cards` meets its contract. The invariant: the cards of the images so far were put.
 -- Assumes nothing.
-use Rattle.catalogue_row.proofs.Putting.{Putting}
+use Rattle.std.proofs.Common.{◌≡◌, ◌*◌}
+use Rattle.catalogue_rules.specs.Put.{put_at}
+use Rattle.catalogue_row.proofs.Putting.{so_far}
 use Rattle.catalogue_row.proofs.moved.cards.Given as goal
 
-abbrev pub invariant-loop-left : goal.invariant-loop-left
-invariant-loop-left l = Putting l.archive l.images l.initial.out l.out l.from l.to l.left
-
-abbrev pub decreases-loop-left : goal.decreases-loop-left
-decreases-loop-left l = l.left
+abbrev pub invariant-loop-image : goal.invariant-loop-image
+invariant-loop-image l = (l.to ≡ 145 * l.image-index) × (l.out ≡ put_at l.initial.out 0 (so_far l.images l.image-index))

@@ -7,6 +7,7 @@ ghost use Rattle.transmit_rules.specs.QueueView.{queue_of, Holds, Turns, sound_f
 
 use transmit_rules::Fifo;
 // The packets lie in the last `size` bytes of `ram`, with a word for each in `dir` from `FIRST` on.
+// Memory, directory, size and registers stay four parameters, as in `receive` (`reading.rt`).
 
 mod good; // good.rt: the tests of soundness
 pub mod leaving; // leaving.rt: the oldest packet leaves the transmit FIFO: what is wanted of it, and what the wire is told

@@ -1,4 +1,5 @@
 // What the host reads of the receive side, and the commands that drop frames: the unread bytes, RX Status, RX Complete, RX Free, the data read, RX Discard.
+// Memory, directory, size and registers stay four parameters: a struct of them with `Sound` as a ghost field proves, but it makes each clause and each call longer, and what changes the memory cannot take it.
 ghost use Rattle.std.specs.Prelude.{◌≡◌, ◌<◌, get_or};
 ghost use Rattle.std.specs.Int.Signed.{mag};
 ghost use Rattle.store.specs.Store as store;

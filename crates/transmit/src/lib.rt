@@ -18,6 +18,7 @@ mod statuses; // statuses.rt: the TX status stack: at most 31 entries, oldest fi
 pub use outcomes::{has_status, reset, top_status};
 
 // `size` is the transmitter's part of the RAM: the last `size` bytes of `ram`.
+// Memory, directory, size and registers stay four parameters, as in `receive` (`reading.rt`).
 
 // The test that a call makes of what it is handed.
 pub fn tx_sound(ram: &[u8], dir: &[u16], size: usize, t: Transmit) -> bool

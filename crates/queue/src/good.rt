@@ -21,6 +21,7 @@ pub fn good_part(dir: &[u16], n: usize, k: usize) -> bool
     requires { (768 + n < length dir.now) × (n < 65536) × (k ≤ 2048) }
     ensures { result ≡ (eqb k 0 || sized (get_or dir.now (768 + n) 0 % 2048) && ltb (2 * k) (4 + round4 (get_or dir.now (768 + n) 0 % 2048))) }
 {
-    let len = (dir[FIRST + n] % 2048) as usize;
-    (k == 0) | ((6 <= len) & (len <= LONGEST as usize) & (2 * k < 4 + (len + 3) / 4 * 4))
+    let w = dir[FIRST + n];
+    let len = w % 2048;
+    (k == 0) | ((6 <= len) & (len <= LONGEST) & (2 * k < 4 + store::room(w)))
 }

@@ -94,7 +94,7 @@ fn pad(ram: &[u8], dir: &[u16], size: usize, count: usize) -> u16
     let ended = w < COMING;
     if ended {
         let n = w % 2048;
-        return (n + 3) / 4 * 4 - n;
+        return n.next_multiple_of(4) - n;
     }
     0
 }

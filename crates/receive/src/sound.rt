@@ -40,7 +40,7 @@ fn readable_bytes(ram: &[u8], dir: &[u16], size: usize, count: usize) -> u16
     if COMING <= w {
         return n;
     }
-    (n + 3) / 4 * 4
+    n.next_multiple_of(4)
 }
 
 // Whether every one of `count` frames has 8 to 1,792 bytes and has ended.

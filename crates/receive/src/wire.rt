@@ -63,7 +63,7 @@ fn store_byte(ram: &mut [u8], dir: &mut [u16], size: usize, count: usize, b: u8)
         return;
     }
     let older = store::used(dir, 0, count) - store::room(last);
-    if size < older + (n + 4) / 4 * 4 {
+    if size < older + (n + 1).next_multiple_of(4) {
         store::set_head(ram, dir, a, count, 24);
         return;
     }

@@ -13,7 +13,7 @@ returns-then-count-eq0 c = (rw (none _ _ _ _ c.if-count-eq0.true), lit< tt)
 pub returns-then-ended : goal.returns-then-ended
 returns-then-ended c =
     let s = c.args in
-    (rw (pad_some s.size s.count s.ram.now s.dir.now c.requires c.if-count-eq0.false, lt-leb 32768 (get_or s.dir.now 0 0) (omega (arith, c.if-ended.true))), omega arith)
+    (rw (pad_some s.size s.count s.ram.now s.dir.now c.requires c.if-count-eq0.false, lt-leb 32768 (get_or s.dir.now 0 0) (omega (arith, c.if-ended.true))) (omega (arith, c.next_multiple_of.ensures)), omega (arith, c.next_multiple_of.ensures))
 
 pub returns : goal.returns
 returns c =

@@ -18,4 +18,4 @@ returns-then-w-ge-COMING c =
 pub returns : goal.returns
 returns c =
     let s = c.args in
-    (rw (readable-some s.size s.count s.ram.now s.dir.now c.requires c.if-count-eq0.false, lt-leb _ _ c.if-w-ge-COMING.false), omega arith)
+    (rw (readable-some s.size s.count s.ram.now s.dir.now c.requires c.if-count-eq0.false, lt-leb _ _ c.if-w-ge-COMING.false) (omega (arith, c.next_multiple_of.ensures)), omega (arith, c.next_multiple_of.ensures))

@@ -1,6 +1,6 @@
 -- The versions of a card, counted, and the number of the latest, field by field.
 -- Assumes nothing.
-use Prim.Native.Nat.{ℕ, ◌+◌, ◌≤◌}
+use Prim.Native.Nat.{ℕ, ◌+◌}
 use mathlib.Core.Path.{◌≡◌, refl, sym, ap, ap₂, ◌∙◌}
 use mathlib.Core.Bool.{Bool, true, false, cond, true≢false}
 use mathlib.Core.List.{List, [], ◌∷◌}
@@ -77,7 +77,3 @@ counted_none here n whole none inv =
 pub last_none : (here : List ℕ) (told last whole : ℕ) → fields_of here ≡ [] → latest_from last (versions_from told (fields_of here)) ≡ whole → last ≡ whole
 unfolding versions_from latest_from
 last_none here told last whole none inv = ap (λ (fs : List Field). latest_from last (versions_from told fs)) (sym none) ∙ inv
-
-pub one-most : (b : Bool) → one_if b ≤ 1
-one-most true = omega arith
-one-most false = omega arith

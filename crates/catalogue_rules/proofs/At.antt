@@ -7,7 +7,7 @@ use mathlib.Core.List.{List, [], ◌∷◌}
 use native.Mathlib.Omega.{arith}
 use lib.ListN.{length, get_or, take, drop, length-drop, length-take}
 use lib.Seq.{get_or-drop, drop-drop}
-use Rattle.std.specs.Prelude.{Some, None}
+use Rattle.std.specs.Prelude.{Option, Some, None}
 use Rattle.catalogue_rules.specs.declared.Found.{Found}
 use Rattle.catalogue_rules.specs.Field.{Field, field, number_at, is_whole, behind, fields_of, left_of, found_if, found_at, found}
 use Rattle.catalogue_rules.proofs.Runs.{whole-fits, is_whole_lem, is_cut, fields_step, left_step, fields_stop, left_stop}
@@ -71,6 +71,10 @@ stands-if file at tag start len true w e =
 pub stands : {file : List ℕ} {at tag start len : ℕ} → Some (found tag start len) ≡ found_at file at → Stands file at tag start len
 stands {file} {at} {tag} {start} {len} e = stands-if file at tag start len (is_whole (drop at file)) refl e
 
+-- The same, where an answer was told apart.
+pub stood : (file : List ℕ) (at : ℕ) {r : Option Found} {f : Found} → r ≡ Some f → r ≡ found_at file at → Stands file at f.tag f.start f.len
+stood file at is e = stands {file = file} {at = at} (sym is ∙ e)
+
 -- No whole field: no field is left, and the rest is.
 pub record Stops (file : List ℕ) (at : ℕ) : Type 0 where
   pub none : fields_of (drop at file) ≡ []
@@ -82,6 +86,9 @@ stops_if file at false w e = record { none = fields_stop (drop at file) w; rest 
 
 pub stops : {file : List ℕ} {at : ℕ} → None ≡ found_at file at → Stops file at
 stops {file} {at} e = stops_if file at (is_whole (drop at file)) refl e
+
+pub stopped : (file : List ℕ) (at : ℕ) {r : Option Found} → r ≡ None → r ≡ found_at file at → Stops file at
+stopped file at is e = stops {file = file} {at = at} (sym is ∙ e)
 
 -- A whole field, or none.
 module _ (file : List ℕ) (at : ℕ) (P : Type 0) (whole : (tag start len : ℕ) → Stands file at tag start len → P) (end : Stops file at → P) where

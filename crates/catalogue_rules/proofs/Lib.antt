@@ -2,7 +2,6 @@
 -- tagged fields
 pub mod Runs
 pub mod At
-pub mod Values
 pub mod Append
 -- a file: its meaning and its check
 pub mod Bools
@@ -26,7 +25,6 @@ pub mod Accepted
 pub mod Listed
 pub mod Shows
 pub mod Ways
-pub mod Parts
 mod CatalogueLookupExamples
 -- today's archive, moved in and written out
 pub mod OutAfter

@@ -2,9 +2,8 @@
 -- The measure is what is left of the file.
 -- Assumes nothing.
 use native.Mathlib.Omega.{arith}
-use mathlib.Core.Path.{sym, ◌∙◌}
 use lib.ListN.{drop}
-use Rattle.catalogue_rules.proofs.At.{stands, stops}
+use Rattle.catalogue_rules.proofs.At.{stood, stopped}
 use Rattle.catalogue_put.proofs.Counted.{counted_none, counted-end, counted-on}
 use Rattle.catalogue_rules.proofs.Walks.{one_byte, one_most}
 use Rattle.catalogue_put.proofs.places.versions.Goals as goal
@@ -14,16 +13,16 @@ loop-f-init c = (omega arith, omega arith)
 
 pub returns-in_default : goal.returns-in_default
 returns-in_default c =
-    counted_none (drop c.loop-f.at c.args.file.now) c.loop-f.n _ (stops {file = c.args.file.now} {at = c.loop-f.at} (sym c.in_default.is ∙ c.field_at.ensures)).none c.loop-f.invariant.1
+    counted_none (drop c.loop-f.at c.args.file.now) c.loop-f.n _ (stopped c.args.file.now c.loop-f.at c.in_default.is c.field_at.ensures).none c.loop-f.invariant.1
 
 pub returns-then-f-eq-ADDRESS : goal.returns-then-f-eq-ADDRESS
 returns-then-f-eq-ADDRESS c =
-    counted-end c.args.file.now c.loop-f.at (stands {file = c.args.file.now} {at = c.loop-f.at} (sym c.in-Some.is ∙ c.field_at.ensures)) c.loop-f.n _ c.loop-f.invariant.1 c.if-f-eq-ADDRESS.true
+    counted-end c.args.file.now c.loop-f.at (stood c.args.file.now c.loop-f.at c.in-Some.is c.field_at.ensures) c.loop-f.n _ c.loop-f.invariant.1 c.if-f-eq-ADDRESS.true
 
 pub loop-f-smaller : goal.loop-f-smaller
 loop-f-smaller c =
-    omega (arith, (stands {file = c.args.file.now} {at = c.loop-f.at} (sym c.in-Some.is ∙ c.field_at.ensures)).fits, (stands {file = c.args.file.now} {at = c.loop-f.at} (sym c.in-Some.is ∙ c.field_at.ensures)).behind_head)
+    omega (arith, (stood c.args.file.now c.loop-f.at c.in-Some.is c.field_at.ensures).fits, (stood c.args.file.now c.loop-f.at c.in-Some.is c.field_at.ensures).behind_head)
 
 pub loop-f-preserved : goal.loop-f-preserved
 loop-f-preserved c =
-    (omega (arith, (stands {file = c.args.file.now} {at = c.loop-f.at} (sym c.in-Some.is ∙ c.field_at.ensures)).fits, (stands {file = c.args.file.now} {at = c.loop-f.at} (sym c.in-Some.is ∙ c.field_at.ensures)).behind_head, one_most _ c.from-n.ensures), counted-on c.args.file.now c.loop-f.at (stands {file = c.args.file.now} {at = c.loop-f.at} (sym c.in-Some.is ∙ c.field_at.ensures)) c.loop-f.n _ c.loop-f.invariant.1 c.if-f-eq-ADDRESS.false (one_byte _ c.from-n.ensures))
+    (omega (arith, (stood c.args.file.now c.loop-f.at c.in-Some.is c.field_at.ensures).fits, (stood c.args.file.now c.loop-f.at c.in-Some.is c.field_at.ensures).behind_head, one_most _ c.from-n.ensures), counted-on c.args.file.now c.loop-f.at (stood c.args.file.now c.loop-f.at c.in-Some.is c.field_at.ensures) c.loop-f.n _ c.loop-f.invariant.1 c.if-f-eq-ADDRESS.false (one_byte _ c.from-n.ensures))

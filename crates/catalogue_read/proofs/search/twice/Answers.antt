@@ -2,28 +2,27 @@
 -- The measure is what is left of the file.
 -- Assumes nothing.
 use native.Mathlib.Omega.{arith}
-use mathlib.Core.Path.{sym, ◌∙◌}
 use lib.ListN.{drop}
-use Rattle.catalogue_rules.proofs.At.{stands, stops}
+use Rattle.catalogue_rules.proofs.At.{stood, stopped}
 use Rattle.catalogue_rules.proofs.Seen.{twice_hit, twice_on, twice_none}
 use Rattle.catalogue_read.proofs.search.twice.Goals as goal
 
 pub returns : goal.returns
 returns c =
-    twice_none (drop c.loop-f.at c.args.file.now) (stops {file = c.args.file.now} {at = c.loop-f.at} (sym c.in_default.is ∙ c.field_at.ensures)).none c.loop-f.invariant
+    twice_none (drop c.loop-f.at c.args.file.now) (stopped c.args.file.now c.loop-f.at c.in_default.is c.field_at.ensures).none c.loop-f.invariant
 
 pub overflow_add-next : goal.overflow_add-next
 overflow_add-next c =
-    omega (arith, (stands {file = c.args.file.now} {at = c.loop-f.at} (sym c.in-Some.is ∙ c.field_at.ensures)).fits)
+    omega (arith, (stood c.args.file.now c.loop-f.at c.in-Some.is c.field_at.ensures).fits)
 
 pub returns-then-comes_again : goal.returns-then-comes_again
 returns-then-comes_again c =
-    twice_hit (drop c.loop-f.at c.args.file.now) _ _ _ (stands {file = c.args.file.now} {at = c.loop-f.at} (sym c.in-Some.is ∙ c.field_at.ensures)).is_first c.comes_again.ensures c.loop-f.invariant c.if-comes_again.true
+    twice_hit (drop c.loop-f.at c.args.file.now) _ _ _ (stood c.args.file.now c.loop-f.at c.in-Some.is c.field_at.ensures).is_first c.comes_again.ensures c.loop-f.invariant c.if-comes_again.true
 
 pub loop-f-smaller : goal.loop-f-smaller
 loop-f-smaller c =
-    omega (arith, (stands {file = c.args.file.now} {at = c.loop-f.at} (sym c.in-Some.is ∙ c.field_at.ensures)).fits, (stands {file = c.args.file.now} {at = c.loop-f.at} (sym c.in-Some.is ∙ c.field_at.ensures)).behind_head)
+    omega (arith, (stood c.args.file.now c.loop-f.at c.in-Some.is c.field_at.ensures).fits, (stood c.args.file.now c.loop-f.at c.in-Some.is c.field_at.ensures).behind_head)
 
 pub loop-f-preserved : goal.loop-f-preserved
 loop-f-preserved c =
-    twice_on (drop c.loop-f.at c.args.file.now) _ _ _ (stands {file = c.args.file.now} {at = c.loop-f.at} (sym c.in-Some.is ∙ c.field_at.ensures)).is_first c.comes_again.ensures c.loop-f.invariant c.if-comes_again.false
+    twice_on (drop c.loop-f.at c.args.file.now) _ _ _ (stood c.args.file.now c.loop-f.at c.in-Some.is c.field_at.ensures).is_first c.comes_again.ensures c.loop-f.invariant c.if-comes_again.false

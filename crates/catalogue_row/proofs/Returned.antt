@@ -8,7 +8,6 @@ use native.Mathlib.Omega.{arith}
 use lib.ListN.{length, take, drop, length-drop, take-append-drop}
 use lib.Seq.{take_at}
 use Rattle.std.specs.Prelude.{Result, Ok, Err}
-use Rattle.std.specs.List.{list_any}
 use Rattle.refusal.specs.declared.Refusal.{Refusal}
 use Rattle.refusal.specs.declared.Refusal.TheVariants.{MakerWrong, ChecksumWrong, SecondaryWrong}
 use Rattle.image_rules.specs.declared.Node.{Node}
@@ -16,11 +15,10 @@ use Rattle.image_rules.specs.Image.{check_of}
 use Rattle.catalogue_rules.specs.Reading.{catalogue, read, file_of, any_twice}
 use Rattle.catalogue_rules.specs.Archive.{row_of, moved_in, moved_out, is_sound, AllSound, addresses_in, BackAsItCame}
 use Rattle.catalogue_rules.proofs.OutAfter.{out_after_in_lem}
-use Rattle.catalogue_rules.specs.Edit.{Change, bytes, images_within, images_in, is_for, any_for, imported, exported}
+use Rattle.catalogue_rules.specs.Edit.{Change, bytes, or_else, images_within, images_in, is_for, any_for, imported, exported}
 use Rattle.catalogue_rules.specs.Put.{answer_of, area_after}
 use Rattle.catalogue_row.specs.Back.{out_again, ComesBack, RowComesBack}
-use Rattle.catalogue_row.proofs.Each.{any_refused}
-use Rattle.catalogue_row.proofs.Ways.{sound}
+use Rattle.catalogue_row.proofs.Ways.{or_all, apartly}
 use Rattle.catalogue_row.proofs.Fitting.{exported_fields}
 
 -- An archive is the row of its images.
@@ -52,13 +50,13 @@ module _ (row area out : List ℕ) (even : length row % 128 ≡ 0) (few : length
   file : List ℕ
   file = file_of (moved_in (images_in row))
 
-  none_refused : (why : Refusal) → false ≡ list_any (λ image. is_for why (check_of image)) (images_in row)
-  none_refused why = sym (any_refused why (images_in row) ∙ none_for why (images_in row) all)
-
   goes_in : imported (length area) row ≡ bytes file
-  unfolding file
+  unfolding file or_all
   goes_in =
-      sound area row fits even few refl (sym apart) refl (none_refused MakerWrong) refl (none_refused ChecksumWrong) refl (none_refused SecondaryWrong) refl
+      apartly area row fits even few refl (sym apart) refl
+      ∙ ap (λ (b : Bool). or_else b MakerWrong (or_all (ChecksumWrong ∷ SecondaryWrong ∷ []) (images_in row) (bytes file))) (none_for MakerWrong (images_in row) all)
+      ∙ ap (λ (b : Bool). or_else b ChecksumWrong (or_all (SecondaryWrong ∷ []) (images_in row) (bytes file))) (none_for ChecksumWrong (images_in row) all)
+      ∙ ap (λ (b : Bool). or_else b SecondaryWrong (bytes file)) (none_for SecondaryWrong (images_in row) all)
 
   back : BackAsItCame (images_in row)
   unfolding images_in

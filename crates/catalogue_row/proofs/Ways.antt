@@ -1,16 +1,18 @@
 -- The ways through an import: each test in its turn.
 -- Assumes nothing.
-use Prim.Native.Nat.{ℕ, ◌+◌, ◌*◌, ◌/◌, ◌%◌, ◌≤◌, ◌<◌}
+use Prim.Native.Nat.{ℕ, suc, ◌+◌, ◌*◌, ◌/◌, ◌%◌, ◌≤◌, ◌<◌}
 use mathlib.Core.Path.{◌≡◌, sym, ap, ◌∙◌}
 use mathlib.Core.Bool.{Bool, true, false, not}
-use mathlib.Core.List.{List}
+use mathlib.Core.List.{List, [], ◌∷◌}
+use native.Mathlib.Omega.{arith}
 use borrow.Author.Tests.{lt-ltb, le-ltb, eq-eqb, ne_eqb}
-use lib.ListN.{length}
+use lib.ListN.{length, drop, drop_of_length-le}
+use lib.Seq.{drop-cons}
 use lib.Dec.{eqb, ltb}
-use Rattle.std.specs.Prelude.{Err}
+use Rattle.std.specs.Prelude.{Err, slice_index_or}
 use Rattle.std.specs.List.{list_any}
 use Rattle.refusal.specs.declared.Refusal.{Refusal}
-use Rattle.refusal.specs.declared.Refusal.TheVariants.{LengthOutside, ArgumentOutside, MakerWrong, ChecksumWrong, SecondaryWrong, NoPlace, ListedTwice}
+use Rattle.refusal.specs.declared.Refusal.TheVariants.{StateUnsound, LengthOutside, ArgumentOutside, MakerWrong, ChecksumWrong, SecondaryWrong, NoPlace, ListedTwice}
 use Rattle.image_rules.specs.Image.{check_of}
 use Rattle.catalogue_rules.specs.Reading.{any_twice, file_of}
 use Rattle.catalogue_rules.specs.Archive.{moved_in, addresses_in}
@@ -18,6 +20,14 @@ use Rattle.catalogue_rules.specs.Edit.{Change, bytes, or_else, images_in, is_for
 use Rattle.catalogue_rules.specs.PutContracts.{Writes}
 use Rattle.catalogue_rules.proofs.Changes.{or_else_lem, or_on, refusing}
 use Rattle.catalogue_row.proofs.Each.{any_refused}
+
+-- The first of these reasons that an image is refused for, else the change.
+unfoldable pub or_all : List Refusal → List (List ℕ) → Change → Change
+or_all [] images change = change
+or_all (why ∷ those) images change = or_else (any_for why images) why (or_all those images change)
+
+abbrev pub moved : List (List ℕ) → Change
+moved images = bytes (file_of (moved_in images))
 
 module _ (area row : List ℕ) where
   pub short : length area < 145 * (length row / 128) + 5 → Writes (imported (length area) row) (Err ArgumentOutside) area area
@@ -45,9 +55,6 @@ module _ (area row : List ℕ) where
       crowded h = refusing _ _ (evenly ∙ or_else_lem _ _ _ (lt-ltb 64 (length row / 128) h)) area
 
       module _ (few : length row / 128 ≤ 64) {images : List (List ℕ)} (cut : images ≡ images_in row) {t : Bool} (twice : t ≡ any_twice (addresses_in images)) where
-        all_for : (why : Refusal) → list_any (λ image. is_for why (check_of image)) images ≡ any_for why (images_in row)
-        all_for why = any_refused why images ∙ ap (any_for why) cut
-
         fewly : imported (length area) row ≡ or_else t ListedTwice (all_sound (images_in row) (bytes (file_of (moved_in (images_in row)))))
         fewly =
             evenly ∙ or_on _ _ _ (le-ltb 64 (length row / 128) few)
@@ -56,40 +63,29 @@ module _ (area row : List ℕ) where
         pub listed_twice_lem : t ≡ true → Writes (imported (length area) row) (Err ListedTwice) area area
         listed_twice_lem y = refusing _ _ (fewly ∙ or_else_lem _ _ _ y) area
 
-        module _ (apart : t ≡ false) where
-          whole : Change
-          whole = bytes (file_of (moved_in (images_in row)))
+        -- Behind these tests: 8, 9 and 10 in the table's order.
+        pub apartly : t ≡ false → imported (length area) row ≡ or_all (MakerWrong ∷ ChecksumWrong ∷ SecondaryWrong ∷ []) images (moved images)
+        unfolding all_sound or_all
+        apartly apart = fewly ∙ or_on _ _ _ apart ∙ ap (λ (l : List (List ℕ)). all_sound l (moved l)) (sym cut)
 
-          apartly : imported (length area) row ≡ all_sound (images_in row) whole
-          unfolding whole
-          apartly = fewly ∙ or_on _ _ _ apart
+-- One reason after the other.
+module _ (area row : List ℕ) (those : List Refusal) (images : List (List ℕ)) {i : ℕ} (inv : imported (length area) row ≡ or_all (drop i those) images (moved images)) where
+  module _ (h : i < length those) {b : Bool} (is : b ≡ list_any (λ image. is_for (slice_index_or those i StateUnsound) (check_of image)) images) where
+    step : imported (length area) row ≡ or_else b (slice_index_or those i StateUnsound) (or_all (drop (suc i) those) images (moved images))
+    unfolding or_all
+    step =
+        inv
+        ∙ ap (λ (l : List Refusal). or_all l images (moved images)) (drop-cons those i StateUnsound h)
+        ∙ ap (λ (x : Bool). or_else x (slice_index_or those i StateUnsound) (or_all (drop (suc i) those) images (moved images)))
+        (sym (is ∙ any_refused (slice_index_or those i StateUnsound) images))
 
-          module _ {m : Bool} (maker : m ≡ list_any (λ image. is_for MakerWrong (check_of image)) images) where
-            first : imported (length area) row ≡ or_else m MakerWrong (or_else (any_for ChecksumWrong (images_in row)) ChecksumWrong (or_else (any_for SecondaryWrong (images_in row)) SecondaryWrong whole))
-            unfolding all_sound
-            first =
-                apartly
-                ∙ ap (λ (b : Bool). or_else b MakerWrong (or_else (any_for ChecksumWrong (images_in row)) ChecksumWrong (or_else (any_for SecondaryWrong (images_in row)) SecondaryWrong whole))) (sym (maker ∙ all_for MakerWrong))
+    pub wrong : b ≡ true → Writes (imported (length area) row) (Err (slice_index_or those i StateUnsound)) area area
+    wrong y = refusing _ _ (step ∙ or_else_lem _ _ _ y) area
 
-            pub wrong_maker : m ≡ true → Writes (imported (length area) row) (Err MakerWrong) area area
-            wrong_maker y = refusing _ _ (first ∙ or_else_lem _ _ _ y) area
+    pub right : b ≡ false → imported (length area) row ≡ or_all (drop (i + 1) those) images (moved images)
+    right y =
+        let n : suc i ≡ i + 1 = omega arith in step ∙ or_on _ _ _ y ∙ ap (λ (k : ℕ). or_all (drop k those) images (moved images)) n
 
-            module _ (mine : m ≡ false) {k : Bool} (check : k ≡ list_any (λ image. is_for ChecksumWrong (check_of image)) images) where
-              second : imported (length area) row ≡ or_else k ChecksumWrong (or_else (any_for SecondaryWrong (images_in row)) SecondaryWrong whole)
-              second =
-                  first ∙ or_on _ _ _ mine
-                  ∙ ap (λ (b : Bool). or_else b ChecksumWrong (or_else (any_for SecondaryWrong (images_in row)) SecondaryWrong whole)) (sym (check ∙ all_for ChecksumWrong))
-
-              pub wrong_checksum : k ≡ true → Writes (imported (length area) row) (Err ChecksumWrong) area area
-              wrong_checksum y = refusing _ _ (second ∙ or_else_lem _ _ _ y) area
-
-              module _ (right : k ≡ false) {z : Bool} (also : z ≡ list_any (λ image. is_for SecondaryWrong (check_of image)) images) where
-                third : imported (length area) row ≡ or_else z SecondaryWrong whole
-                third = second ∙ or_on _ _ _ right ∙ ap (λ (b : Bool). or_else b SecondaryWrong whole) (sym (also ∙ all_for SecondaryWrong))
-
-                pub wrong_secondary : z ≡ true → Writes (imported (length area) row) (Err SecondaryWrong) area area
-                wrong_secondary y = refusing _ _ (third ∙ or_else_lem _ _ _ y) area
-
-                pub sound : z ≡ false → imported (length area) row ≡ bytes (file_of (moved_in images))
-                unfolding whole
-                sound y = third ∙ or_on _ _ _ y ∙ ap (λ (l : List (List ℕ)). bytes (file_of (moved_in l))) (sym cut)
+  pub sound : length those ≤ i → imported (length area) row ≡ moved images
+  unfolding or_all
+  sound h = inv ∙ ap (λ (l : List Refusal). or_all l images (moved images)) (drop_of_length-le those h)

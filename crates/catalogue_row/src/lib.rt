@@ -31,14 +31,14 @@ pub fn import(archive: &[u8], out: &mut [u8]) -> Result<usize, Refusal>
         return Err(Refusal::ListedTwice);
     }
     // The table's order, and not that of the images.
-    if images::any_for(images, Refusal::MakerWrong) {
-        return Err(Refusal::MakerWrong);
-    }
-    if images::any_for(images, Refusal::ChecksumWrong) {
-        return Err(Refusal::ChecksumWrong);
-    }
-    if images::any_for(images, Refusal::SecondaryWrong) {
-        return Err(Refusal::SecondaryWrong);
+    for why in [
+        Refusal::MakerWrong,
+        Refusal::ChecksumWrong,
+        Refusal::SecondaryWrong,
+    ] {
+        if images::any_for(images, why) {
+            return Err(why);
+        }
     }
     Ok(moved::cards(images, out))
 }

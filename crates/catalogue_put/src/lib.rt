@@ -52,8 +52,7 @@ pub fn count(out: &mut [u8], at: usize, n: usize) -> usize
     requires { (n < 65536) × (at + 5 ≤ length out.old) }
     ensures { (result ≡ at + 5) × (out.new ≡ put_at out.old at (bytes_of (count_field n ∷ []))) }
 {
-    let low = (n % 256) as u8;
-    let high = (n / 256) as u8;
+    let [low, high] = (n as u16).to_le_bytes();
     let tail = [4, 2, 0, low, high];
     bytes(out, at, &tail)
 }

@@ -35,22 +35,9 @@ pushed : (t : Bool) (f : ℕ → ℕ → List ℕ) (a b c d : ℕ) → f (cond t
 pushed true f a b c d = refl
 pushed false f a b c d = refl
 
--- The number and the image stand in their order, with room for the count behind them.
-pub record Placed (file : List ℕ) (at number image : ℕ) : Type 0 where
-  pub numbered : at ≤ number
-  pub imaged : number + 5 ≤ image
-  pub ended : image + 136 ≤ length file
-
 module _ (file : List ℕ) (at n : ℕ) {number image : ℕ} (p : number ≡ number_place file at) (q : image ≡ number + field_place 3 (fields_of (drop number file))) where
   image_at : image ≡ image_place file at
   image_at = q ∙ ap (λ (k : ℕ). k + field_place 3 (fields_of (drop k file))) p
-
-  pub placed : Behind file at n → Placed file at number image
-  placed b =
-      let i : image ≡ image_place file at = image_at in
-      let e : image_place file at + 136 ≤ length file = b.ended in
-      let m : number_place file at + 5 ≤ image_place file at = b.imaged in
-      record { numbered = omega arith; imaged = omega arith; ended = omega arith }
 
   -- The bytes that were left are the new file, if the right ones were.
   module _ {versions : ℕ} (v : versions ≡ length (versions_from 0 (fields_of (drop at file)))) where

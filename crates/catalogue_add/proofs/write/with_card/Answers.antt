@@ -1,7 +1,7 @@
 -- `write::with_card` meets its contract: three puts, one behind the other.
 -- Assumes nothing.
 use Prim.Native.Nat.{◌+◌, ◌-◌}
-use mathlib.Core.Path.{◌≡◌, sym}
+use mathlib.Core.Path.{◌≡◌}
 use mathlib.Core.List.{[], ◌∷◌}
 use native.Mathlib.Omega.{arith}
 use lib.ListN.{length, take}
@@ -13,24 +13,6 @@ use Rattle.catalogue_rules.specs.Edit.{version_fields}
 use Rattle.catalogue_add.proofs.Whole.{count-length}
 use Rattle.catalogue_add.proofs.Chains.{card-length, three-put}
 use Rattle.catalogue_add.proofs.write.with_card.Goals as goal
-
-pub slice_bounds-bytes-end : goal.slice_bounds-bytes-end
-slice_bounds-bytes-end c = sym (length-take-le (length c.args.file.now - 5) c.args.file.now (omega arith))
-
-pub bytes-one-requires : goal.bytes-one-requires
-bytes-one-requires c =
-    let n : length (take (length c.args.file.now - 5) c.args.file.now) ≡ length c.args.file.now - 5 = length-take-le (length c.args.file.now - 5) c.args.file.now (omega arith) in
-    omega arith
-
-pub card-two-requires : goal.card-two-requires
-card-two-requires c =
-    let n : length (take (length c.args.file.now - 5) c.args.file.now) ≡ length c.args.file.now - 5 = length-take-le (length c.args.file.now - 5) c.args.file.now (omega arith) in
-    (omega arith, omega arith)
-
-pub count-requires : goal.count-requires
-count-requires c =
-    let n : length (take (length c.args.file.now - 5) c.args.file.now) ≡ length c.args.file.now - 5 = length-take-le (length c.args.file.now - 5) c.args.file.now (omega arith) in
-    (omega arith, omega arith)
 
 pub returns : goal.returns
 returns c =

@@ -1,7 +1,7 @@
 -- `write::with_version` meets its contract: four puts, one behind the other.
 -- Assumes nothing.
 use Prim.Native.Nat.{◌+◌, ◌-◌}
-use mathlib.Core.Path.{◌≡◌, sym}
+use mathlib.Core.Path.{◌≡◌}
 use mathlib.Core.List.{[], ◌∷◌}
 use native.Mathlib.Omega.{arith}
 use lib.ListN.{length, take, drop}
@@ -13,31 +13,6 @@ use Rattle.catalogue_rules.proofs.Chain.{version-length}
 use Rattle.catalogue_add.proofs.Whole.{count-length}
 use Rattle.catalogue_add.proofs.Chains.{part_length, four_put}
 use Rattle.catalogue_add.proofs.write.with_version.Goals as goal
-
-pub slice_bounds-bytes-end : goal.slice_bounds-bytes-end
-slice_bounds-bytes-end c = sym (length-take-le c.args.place c.args.file.now (omega arith))
-
-pub bytes-one-requires : goal.bytes-one-requires
-bytes-one-requires c =
-    let n : length (take c.args.place c.args.file.now) ≡ c.args.place = length-take-le c.args.place c.args.file.now (omega arith) in
-    omega arith
-
-pub version-two-requires : goal.version-two-requires
-version-two-requires c =
-    let n : length (take c.args.place c.args.file.now) ≡ c.args.place = length-take-le c.args.place c.args.file.now (omega arith) in
-    (omega arith, omega arith)
-
-pub bytes-three-requires : goal.bytes-three-requires
-bytes-three-requires c =
-    let n : length (take c.args.place c.args.file.now) ≡ c.args.place = length-take-le c.args.place c.args.file.now (omega arith) in
-    let r : length (take (length c.args.file.now - 5 - c.args.place) (drop c.args.place c.args.file.now)) ≡ length c.args.file.now - 5 - c.args.place = part_length c.args.file.now c.args.place (omega arith) in
-    omega arith
-
-pub count-requires : goal.count-requires
-count-requires c =
-    let n : length (take c.args.place c.args.file.now) ≡ c.args.place = length-take-le c.args.place c.args.file.now (omega arith) in
-    let r : length (take (length c.args.file.now - 5 - c.args.place) (drop c.args.place c.args.file.now)) ≡ length c.args.file.now - 5 - c.args.place = part_length c.args.file.now c.args.place (omega arith) in
-    (omega arith, omega arith)
 
 pub returns : goal.returns
 returns c =

@@ -1,8 +1,7 @@
 -- `service::look` and `service::receive`: each way through `look` and `receive` is a law of Ways, and one of Unmoved; the accesses left fall at each call. Assumes nothing.
 use mathlib.Core.Path.{refl, sym, ◌∙◌}
 use mathlib.Core.List.{[]}
-use native.Mathlib.Omega.{arith}
-use Rattle.driver_rules.proofs.Runs.{wrote, ram_kept, dir_kept}
+use Rattle.driver_rules.proofs.Runs.{wrote}
 use Rattle.driver_rules.proofs.ServiceWays as ways
 use Rattle.driver_rules.proofs.Unmoved as unmoved
 use Rattle.service.proofs.+look_receive.Goals as goal
@@ -11,74 +10,17 @@ pub look-returns-then-left-eq0 : goal.look-returns-then-left-eq0
 look-returns-then-left-eq0 t c =
     rw c.short.ensures (ways.look_none c.args.left _ _ _ _ _ c.if-left-eq0.true, (c.requires.sound, unmoved.stays _ _ _ _))
 
-pub look-read_word-got-requires : goal.look-read_word-got-requires
-look-read_word-got-requires t c = (c.requires.sound, refl)
-
-pub look-overflow_sub-left : goal.look-overflow_sub-left
-look-overflow_sub-left t c = omega (arith, c.if-left-eq0.false)
-
-pub look-shape_of-ram-then-is_unfit : goal.look-shape_of-ram-then-is_unfit
-look-shape_of-ram-then-is_unfit t c =
-    ram_kept c.read_word-got.ensures.stands.sound c.requires.sound
-
-pub look-shape_of-dir-then-is_unfit : goal.look-shape_of-dir-then-is_unfit
-look-shape_of-dir-then-is_unfit t c =
-    dir_kept c.read_word-got.ensures.stands.sound c.requires.sound
-
 pub look-returns-then-is_unfit : goal.look-returns-then-is_unfit
 look-returns-then-is_unfit t c =
     rw c.ended.ensures (ways.look-unfit c.args.left _ _ _ _ c.if-left-eq0.false _ _ (unmoved.as_came 14 _ _ _ refl c.requires.sound c.read_word-got.ensures) _ (sym c.is_unfit.ensures ∙ c.if-is_unfit.true), (c.requires.sound, unmoved.stays _ _ _ _))
-
-pub look-overflow_sub-left-then-is_tx_complete : goal.look-overflow_sub-left-then-is_tx_complete
-look-overflow_sub-left-then-is_tx_complete t c = omega (arith, c.if-left-eq0.false)
-
-pub look-report-requires : goal.look-report-requires
-look-report-requires t c = c.requires.sound
-
-pub look-shape_of-ram-then-is_tx_complete : goal.look-shape_of-ram-then-is_tx_complete
-look-shape_of-ram-then-is_tx_complete t c =
-    ram_kept c.report.ensures.1.0 c.requires.sound
-
-pub look-shape_of-dir-then-is_tx_complete : goal.look-shape_of-dir-then-is_tx_complete
-look-shape_of-dir-then-is_tx_complete t c =
-    dir_kept c.report.ensures.1.0 c.requires.sound
 
 pub look-returns-then-is_tx_complete : goal.look-returns-then-is_tx_complete
 look-returns-then-is_tx_complete t c =
     let e = unmoved.as_came 14 _ _ _ refl c.requires.sound c.read_word-got.ensures in let w = sym c.is_unfit.ensures ∙ c.if-is_unfit.false in let h = sym c.is_tx_complete.ensures ∙ c.if-is_tx_complete.true in (ways.look-report c.args.left _ _ _ _ c.if-left-eq0.false _ _ e w _ _ h c.report.ensures.0, (c.report.ensures.1.0, unmoved.after_read_lem _ _ _ _ _ _ _ _ 14 (ways.looks_report _ _ _ _ c.args.left c.if-left-eq0.false e w h) c.report.ensures.1.1))
 
-pub look-overflow_sub-left-then-is_rx_complete : goal.look-overflow_sub-left-then-is_rx_complete
-look-overflow_sub-left-then-is_rx_complete t c = omega (arith, c.if-left-eq0.false)
-
-pub look-receive-requires : goal.look-receive-requires
-look-receive-requires t c =
-    (omega (arith, c.decreases, c.if-left-eq0.false), record { sound = c.requires.sound; look = c.requires.look; frame = c.requires.frame })
-
-pub look-shape_of-ram-then-is_rx_complete : goal.look-shape_of-ram-then-is_rx_complete
-look-shape_of-ram-then-is_rx_complete t c =
-    ram_kept c.receive.ensures.1.0 c.requires.sound
-
-pub look-shape_of-dir-then-is_rx_complete : goal.look-shape_of-dir-then-is_rx_complete
-look-shape_of-dir-then-is_rx_complete t c =
-    dir_kept c.receive.ensures.1.0 c.requires.sound
-
 pub look-returns-then-is_rx_complete : goal.look-returns-then-is_rx_complete
 look-returns-then-is_rx_complete t c =
     let e = unmoved.as_came 14 _ _ _ refl c.requires.sound c.read_word-got.ensures in let w = sym c.is_unfit.ensures ∙ c.if-is_unfit.false in let h = sym c.is_tx_complete.ensures ∙ c.if-is_tx_complete.false in let x = sym c.is_rx_complete.ensures ∙ c.if-is_rx_complete.true in (ways.look_receive_lem c.args.left _ _ _ _ c.if-left-eq0.false _ _ e w h _ _ _ _ x c.receive.ensures.0, (c.receive.ensures.1.0, unmoved.after_read_lem _ _ _ _ _ _ _ _ 14 (ways.looks_receive _ _ _ _ c.args.left c.if-left-eq0.false e w h x) c.receive.ensures.1.1))
-
-pub look-overflow_sub-left-2 : goal.look-overflow_sub-left-2
-look-overflow_sub-left-2 t c = omega (arith, c.if-left-eq0.false)
-
-pub look-idle-requires : goal.look-idle-requires
-look-idle-requires t c = c.requires.sound
-
-pub look-shape_of-ram : goal.look-shape_of-ram
-look-shape_of-ram t c =
-    ram_kept c.idle.ensures.1.0 c.requires.sound
-
-pub look-shape_of-dir : goal.look-shape_of-dir
-look-shape_of-dir t c =
-    dir_kept c.idle.ensures.1.0 c.requires.sound
 
 pub look-returns : goal.look-returns
 look-returns t c =
@@ -88,77 +30,17 @@ pub receive-returns-then-left-eq0 : goal.receive-returns-then-left-eq0
 receive-returns-then-left-eq0 t c =
     rw c.short.ensures (ways.receive_none c.args.left _ _ _ _ _ c.if-left-eq0.true, (c.requires.sound, unmoved.stays _ _ _ _))
 
-pub receive-read_word-got-requires : goal.receive-read_word-got-requires
-receive-read_word-got-requires t c = (c.requires.sound, refl)
-
-pub receive-shape_of-ram-then-left-eq1 : goal.receive-shape_of-ram-then-left-eq1
-receive-shape_of-ram-then-left-eq1 t c =
-    ram_kept c.read_word-got.ensures.stands.sound c.requires.sound
-
-pub receive-shape_of-dir-then-left-eq1 : goal.receive-shape_of-dir-then-left-eq1
-receive-shape_of-dir-then-left-eq1 t c =
-    dir_kept c.read_word-got.ensures.stands.sound c.requires.sound
-
 pub receive-returns-then-left-eq1 : goal.receive-returns-then-left-eq1
 receive-returns-then-left-eq1 t c =
     rw c.short-then-left-eq1.ensures (ways.receive_one c.args.left _ _ _ _ c.if-left-eq0.false _ _ (unmoved.as_came 8 _ _ _ refl c.requires.sound c.read_word-got.ensures) (sym c.is_bad.ensures ∙ c.if-is_bad.true) _ c.if-left-eq1.true, (c.requires.sound, unmoved.stays _ _ _ _))
-
-pub receive-discard-dropped-requires : goal.receive-discard-dropped-requires
-receive-discard-dropped-requires t c = c.requires.sound
-
-pub receive-overflow_sub-result : goal.receive-overflow_sub-result
-receive-overflow_sub-result t c =
-    omega (arith, c.if-left-eq0.false, c.if-left-eq1.false)
-
-pub receive-shape_of-ram-then-turns-eq0 : goal.receive-shape_of-ram-then-turns-eq0
-receive-shape_of-ram-then-turns-eq0 t c =
-    ram_kept c.discard-dropped.ensures.sound c.requires.sound
-
-pub receive-shape_of-dir-then-turns-eq0 : goal.receive-shape_of-dir-then-turns-eq0
-receive-shape_of-dir-then-turns-eq0 t c =
-    dir_kept c.discard-dropped.ensures.sound c.requires.sound
 
 pub receive-returns-then-turns-eq0 : goal.receive-returns-then-turns-eq0
 receive-returns-then-turns-eq0 t c =
     let e = unmoved.as_came 8 _ _ _ refl c.requires.sound c.read_word-got.ensures in let w = sym c.is_bad.ensures ∙ c.if-is_bad.true in let x = wrote _ c.discard-dropped.ensures in (ways.receive_pause c.args.left _ _ _ _ c.if-left-eq0.false _ _ e w c.if-left-eq1.false _ _ x _, (c.discard-dropped.ensures.sound, unmoved.after-discard _ _ _ _ _ _ _ _ (ways.dropped c.args.left _ _ [] [] c.if-left-eq0.false _ _ e w c.if-left-eq1.false _ _ x)))
 
-pub receive-overflow_sub-left : goal.receive-overflow_sub-left
-receive-overflow_sub-left t c =
-    omega (arith, c.if-left-eq0.false, c.if-left-eq1.false)
-
-pub receive-overflow_sub-turns : goal.receive-overflow_sub-turns
-receive-overflow_sub-turns t c = omega (arith, c.if-turns-eq0.false)
-
-pub receive-look-requires : goal.receive-look-requires
-receive-look-requires t c =
-    (omega (arith, c.decreases, c.if-left-eq0.false, c.if-left-eq1.false), record { sound = c.discard-dropped.ensures.sound; look = c.requires.look; frame = c.requires.frame })
-
-pub receive-shape_of-ram-then-is_bad : goal.receive-shape_of-ram-then-is_bad
-receive-shape_of-ram-then-is_bad t c =
-    ram_kept c.look.ensures.1.0 c.requires.sound
-
-pub receive-shape_of-dir-then-is_bad : goal.receive-shape_of-dir-then-is_bad
-receive-shape_of-dir-then-is_bad t c =
-    dir_kept c.look.ensures.1.0 c.requires.sound
-
 pub receive-returns-then-is_bad : goal.receive-returns-then-is_bad
 receive-returns-then-is_bad t c =
     let e = unmoved.as_came 8 _ _ _ refl c.requires.sound c.read_word-got.ensures in let w = sym c.is_bad.ensures ∙ c.if-is_bad.true in let x = wrote _ c.discard-dropped.ensures in (ways.receive_again c.args.left _ _ _ _ c.if-left-eq0.false _ _ e w c.if-left-eq1.false _ _ x _ _ _ _ c.look.ensures.0, (c.look.ensures.1.0, unmoved.after-discard _ _ _ _ _ _ _ _ (ways.dropped c.args.left _ _ [] [] c.if-left-eq0.false _ _ e w c.if-left-eq1.false _ _ x)))
-
-pub receive-overflow_sub-left-2 : goal.receive-overflow_sub-left-2
-receive-overflow_sub-left-2 t c = omega (arith, c.if-left-eq0.false)
-
-pub receive-fetch-requires : goal.receive-fetch-requires
-receive-fetch-requires t c =
-    (record { sound = c.requires.sound; look = c.requires.look; frame = c.requires.frame }, ways.good-size c.read_word-got.result.value _ (sym c.is_bad.ensures ∙ c.if-is_bad.false) c.length.ensures)
-
-pub receive-shape_of-ram : goal.receive-shape_of-ram
-receive-shape_of-ram t c =
-    ram_kept c.fetch.ensures.1.0 c.requires.sound
-
-pub receive-shape_of-dir : goal.receive-shape_of-dir
-receive-shape_of-dir t c =
-    dir_kept c.fetch.ensures.1.0 c.requires.sound
 
 pub receive-returns : goal.receive-returns
 receive-returns t c =

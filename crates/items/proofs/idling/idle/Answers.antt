@@ -13,7 +13,7 @@ use Rattle.driver_rules.specs.declared.Item.TheVariants.{Idle}
 use Rattle.driver_rules.specs.Talk.{run}
 use Rattle.driver_rules.specs.Items.{idle_talk}
 use Rattle.driver_rules.specs.Meets.{Tells}
-use Rattle.driver_rules.proofs.Runs.{wrote, ram_kept, dir_kept}
+use Rattle.driver_rules.proofs.Runs.{wrote}
 use Rattle.driver_rules.proofs.ItemWays.{answered, stops}
 use Rattle.driver_rules.proofs.Unmoved as unmoved
 use Rattle.items.proofs.idling.idle.Goals as goal
@@ -31,20 +31,6 @@ done (suc k) d c s s₁ v h e = stops (suc k) _ (Ok Idle) d (WriteWord 14 26729 
 pub returns-then-left-eq0 : goal.returns-then-left-eq0
 returns-then-left-eq0 c =
     rw c.short.ensures (none c.args.left _ _ _ c.if-left-eq0.true, (c.requires, unmoved.stays _ _ _ _))
-
-pub write_word-end-requires : goal.write_word-end-requires
-write_word-end-requires c = (c.requires, refl)
-
-pub overflow_sub-left : goal.overflow_sub-left
-overflow_sub-left c = omega (arith, c.if-left-eq0.false)
-
-pub shape_of-ram : goal.shape_of-ram
-shape_of-ram c =
-    ram_kept c.write_word-end.ensures.sound c.requires
-
-pub shape_of-dir : goal.shape_of-dir
-shape_of-dir c =
-    dir_kept c.write_word-end.ensures.sound c.requires
 
 pub returns : goal.returns
 returns c =

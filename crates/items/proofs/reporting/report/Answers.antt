@@ -1,11 +1,10 @@
 -- `reporting::report`: its accesses are those of `report_talk`, and each way through it is a law of Ways. Assumes nothing.
-use mathlib.Core.Path.{refl}
 use mathlib.Core.Bool.{false}
 use mathlib.Core.List.{[]}
 use Prim.Native.Nat.{◌-◌}
 use native.Mathlib.Omega.{arith}
 use Rattle.driver_rules.specs.Driver.{with_error}
-use Rattle.driver_rules.proofs.Runs.{gave, wrote, past_data, ram_kept, dir_kept}
+use Rattle.driver_rules.proofs.Runs.{gave, wrote}
 use Rattle.driver_rules.specs.Items.{seen}
 use Rattle.driver_rules.proofs.ItemWays as ways
 use Rattle.driver_rules.proofs.Unmoved as unmoved
@@ -14,41 +13,9 @@ use Rattle.items.proofs.reporting.report.Goals as goal
 pub returns-then-left-lt4 : goal.returns-then-left-lt4
 returns-then-left-lt4 c = rw c.short.ensures (ways.report_short _ _ _ _ c.if-left-lt4.true, (c.requires, unmoved.stays _ _ _ _))
 
-pub read_byte-first-requires : goal.read_byte-first-requires
-read_byte-first-requires c = (c.requires, λ _. past_data)
-
-pub write_byte-popped-requires : goal.write_byte-popped-requires
-write_byte-popped-requires c = c.read_byte-first.ensures.stands.sound
-
-pub read_byte-second-requires : goal.read_byte-second-requires
-read_byte-second-requires c = (c.write_byte-popped.ensures.sound, λ _. past_data)
-
-pub write_word-on-requires : goal.write_word-on-requires
-write_word-on-requires c = (c.read_byte-second.ensures.stands.sound, refl)
-
-pub shape_of-ram-then-wrong-second : goal.shape_of-ram-then-wrong-second
-shape_of-ram-then-wrong-second c =
-    ram_kept c.write_word-on.ensures.sound c.requires
-
-pub shape_of-dir-then-wrong-second : goal.shape_of-dir-then-wrong-second
-shape_of-dir-then-wrong-second c =
-    dir_kept c.write_word-on.ensures.sound c.requires
-
 pub returns-then-wrong-second : goal.returns-then-wrong-second
 returns-then-wrong-second c =
     rw (c.told.ensures, c.with_error.ensures) (let t = ways.told c.args.left _ c.read_byte-first.result.value (with_error false c.args.d) _ _ _ (c.args.left - 4) (ways.report-on c.args.left _ _ _ _ _ _ _ _ c.if-left-lt4.false (gave c.read_byte-first.ensures) (wrote _ c.write_byte-popped.ensures) (gave c.read_byte-second.ensures) c.if-wrong-second.true _ _ (wrote _ c.write_word-on.ensures)) (omega (arith, c.if-left-lt4.false)) in (t, (c.write_word-on.ensures.sound, unmoved.begun _ _ _ _ _ _ (t [] []) (unmoved.report_goes _ _))))
-
-pub overflow_sub-left-2 : goal.overflow_sub-left-2
-overflow_sub-left-2 c =
-    omega (arith, c.if-left-lt4.false)
-
-pub shape_of-ram : goal.shape_of-ram
-shape_of-ram c =
-    ram_kept c.read_byte-second.ensures.stands.sound c.requires
-
-pub shape_of-dir : goal.shape_of-dir
-shape_of-dir c =
-    dir_kept c.read_byte-second.ensures.stands.sound c.requires
 
 pub returns : goal.returns
 returns c =

@@ -1,9 +1,14 @@
 -- The ways of a call on one card's ID port, and that every step there keeps the ID state sound. Assumes nothing.
+use borrow.Author.Rules.{rules}
 use native.Mathlib.Omega.{arith}
 use mathlib.Core.Path.{◌≡◌, refl}
-use mathlib.Core.Bool.{Bool, true, false, not, ◌&&◌}
+use mathlib.Core.Bool.{Bool, true, false, cond, not, ◌&&◌}
 use mathlib.Core.List.{List}
 use Prim.Native.Nat.{ℕ}
+use Rattle.std.specs.Prelude.{Err}
+use Rattle.refusal.specs.declared.Refusal.{Refusal}
+use Rattle.refusal.specs.declared.Refusal.TheVariants.{StateUnsound, ArgumentOutside}
+use Rattle.refusal.specs.Number.{number_of}
 use Rattle.bits.proofs.Tests.{both}
 use Rattle.port_rules.specs.declared.IdState.{IdState}
 use Rattle.port_rules.specs.Card.{id_write, id_bit, id_after_read}
@@ -14,31 +19,34 @@ use Rattle.card_rules.specs.View.{view, Sound, Stands, sound_card}
 use Rattle.card_rules.specs.Sound.{select_sound}
 use Rattle.card_rules.proofs.Sides.{registers_of}
 use Rattle.card_rules.specs.Event as event
-use Rattle.card_rules.specs.Calls.{judged, Does}
+use Rattle.card_rules.specs.Calls.{judged, tested, Does}
+use Rattle.card_rules.proofs.Judged.{refused-as}
 use Rattle.port_rules.specs.Gathered.{is_port, digit_of}
+use Rattle.abi.specs.declared.ids.CardBit.{CardBit}
 use Rattle.abi.specs.Ids.{Seated, bit_of}
 
 module _ (s ok : Bool) (i : IdState) (c : Card) (ram dir : List ℕ) where
-  pub unsound : s ≡ false → Seated (judged s ok 12) i c ram dir (record { card = c; code = 1 })
-  unfolding judged Does
-  unsound e = rw e (record { code = refl; does = (refl, refl, refl) })
-
-  pub outside : s ≡ true → ok ≡ false → Seated (judged s ok 12) i c ram dir (record { card = c; code = 12 })
-  unfolding judged Does
-  outside e f = rw (e, f) (record { code = refl; does = (refl, refl, refl) })
+  pub refuses : (why : Refusal) (code : ℕ) → code ≡ number_of why → Err why ≡ tested s ok ArgumentOutside → Seated (judged s ok 12) i c ram dir (record { card = c; code = code })
+  unfolding Does
+  refuses why code n e =
+      let p = refused-as s ok ArgumentOutside 11 why refl e in
+      rw (p.1, n, p.2) (record { code = refl; does = (refl, refl, refl) })
 
   pub goes : (r : Card) → s ≡ true → ok ≡ true → Stands r ram dir (event.seat i (view c ram dir)) → Seated (judged s ok 12) i c ram dir (record { card = r; code = 0 })
   unfolding judged Does
   goes r e f t = rw (e, f) (record { code = refl; does = t })
 
-module _ (c : Card) (ram dir : List ℕ) (port : ℕ) where
-  pub bit_unsound : sound_card c ram dir ≡ false → record { bit = 0; code = 1 } ≡ bit_of c ram dir port
-  unfolding bit_of
-  bit_unsound e = rw e refl
+no_bit : (s ok : Bool) (why : Refusal) (x : CardBit) → Err why ≡ tested s ok ArgumentOutside
+    → record { bit = 0; code = number_of why } ≡ cond s (cond ok x (record { bit = 0; code = 12 })) (record { bit = 0; code = 1 })
+unfolding tested
+no_bit true true why x e = absurd (search rules)
+no_bit true false why x e = let f : why ≡ ArgumentOutside = search rules in rw f refl
+no_bit false ok why x e = let f : why ≡ StateUnsound = search rules in rw f refl
 
-  pub bit_outside : sound_card c ram dir ≡ true → is_port port ≡ false → record { bit = 0; code = 12 } ≡ bit_of c ram dir port
+module _ (c : Card) (ram dir : List ℕ) (port : ℕ) where
+  pub bit_refused : (why : Refusal) (code : ℕ) → code ≡ number_of why → Err why ≡ tested (sound_card c ram dir) (is_port port) ArgumentOutside → record { bit = 0; code = code } ≡ bit_of c ram dir port
   unfolding bit_of
-  bit_outside e f = rw (e, f) refl
+  bit_refused why code n e = rw n (no_bit (sound_card c ram dir) (is_port port) why _ e)
 
   pub bit_told : (bit : ℕ) → sound_card c ram dir ≡ true → is_port port ≡ true → bit ≡ id_bit c.id (digit_of port) → record { bit = bit; code = 0 } ≡ bit_of c ram dir port
   unfolding bit_of

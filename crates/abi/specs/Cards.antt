@@ -1,11 +1,9 @@
 -- The card's calls: some result x meets the contract of the public call, and r is x in numbers. That contract determines x. Assumes nothing.
-use Rattle.std.specs.Prelude.{◌≡◌, Bool, List, ℕ}
+use Rattle.std.specs.Prelude.{◌≡◌, Bool, List, ℕ, Result, ⊤}
+use Rattle.refusal.specs.declared.Refusal.{Refusal}
 use Rattle.port_rules.specs.declared.IdState.{IdState}
 use Rattle.card_rules.specs.declared.Card.{Card}
-use Rattle.card_rules.specs.declared.AfterCall.{AfterCall}
-use Rattle.card_rules.specs.declared.AfterRead.{AfterRead}
-use Rattle.card_rules.specs.declared.AfterSuccess.{AfterSuccess}
-use Rattle.card_rules.specs.declared.Read.{Read}
+use Rattle.card_rules.specs.declared.After.{After}
 use Rattle.card_rules.specs.declared.RxStatus.{RxStatus}
 use Rattle.card_rules.specs.CardContracts as contract
 use Rattle.codes.specs.declared.cards.CardDone.{CardDone}
@@ -20,11 +18,11 @@ abbrev pub PowersOn : List ℕ → Card → Type 0
 PowersOn words r = contract.PowerOn words r
 
 -- the contract of a read, and of a call that is done, in numbers
-abbrev pub Reads : (AfterRead → Type 0) → CardRead → Type 0
-Reads meets r = (x : AfterRead) × ((r ≡ coded_read x) × meets x)
+abbrev pub Reads : (After ℕ → Type 0) → CardRead → Type 0
+Reads meets r = (x : After ℕ) × ((r ≡ coded_read x) × meets x)
 
-abbrev pub Does : (AfterCall → Type 0) → CardDone → Type 0
-Does meets r = (x : AfterCall) × ((r ≡ coded_done x) × meets x)
+abbrev pub Does : (After ⊤ → Type 0) → CardDone → Type 0
+Does meets r = (x : After ⊤) × ((r ≡ coded_done x) × meets x)
 
 module _ (c : Card) (ram dir : List ℕ) where
   abbrev pub ReadsWord : ℕ → CardRead → Type 0
@@ -56,12 +54,12 @@ module _ (c : Card) (ram dir : List ℕ) where
 
   -- A success: the step, how many bytes the wire is told, and the area that they lie in.
   abbrev pub Succeeds : List ℕ → CardTold → List ℕ → List ℕ → List ℕ → Type 0
-  Succeeds out r ram' dir' out' = (x : AfterSuccess) × ((r ≡ coded_told x) × (contract.Success c ram dir x ram' dir' × contract.SuccessArea c ram dir out out'))
+  Succeeds out r ram' dir' out' = (x : After ℕ) × ((r ≡ coded_told x) × (contract.Success c ram dir x ram' dir' × contract.SuccessArea c ram dir out out'))
 
   -- The interrupt line: the card is not handed back, since it stays as it is.
   abbrev pub Drives : CardLine → Type 0
-  Drives r = (x : Read) × ((r ≡ coded_line x) × contract.InterruptLine c ram dir x)
+  Drives r = (x : Result ℕ Refusal) × ((r ≡ coded_line x) × contract.InterruptLine c ram dir x)
 
   -- RX Status: the card stays as it is, too.
   abbrev pub Shows : CardRxStatus → Type 0
-  Shows r = (x : RxStatus) × ((r ≡ coded_rx_status x) × contract.TellsRxStatus c ram dir x)
+  Shows r = (x : Result RxStatus Refusal) × ((r ≡ coded_rx_status x) × contract.TellsRxStatus c ram dir x)

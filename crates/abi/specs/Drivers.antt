@@ -1,10 +1,9 @@
 -- The driver's calls: some result x meets the contract of the public call, and r is x in numbers. That contract determines x. Assumes nothing.
-use Rattle.std.specs.Prelude.{◌≡◌, List, ℕ, length, take, eqb}
+use Rattle.std.specs.Prelude.{◌≡◌, List, ℕ, length, take, eqb, ⊤}
 use Rattle.std.specs.Borrow.{Bor}
 use Rattle.card_rules.specs.declared.Card.{Card}
 use Rattle.driver_rules.specs.declared.Driver.{Driver}
-use Rattle.driver_rules.specs.declared.Opened.{Opened}
-use Rattle.driver_rules.specs.declared.Sent.{Sent}
+use Rattle.driver_rules.specs.declared.After.{After}
 use Rattle.driver_rules.specs.declared.Serviced.{Serviced}
 use Rattle.driver_rules.specs.Calls as call
 use Rattle.driver_rules.specs.HandUp as up
@@ -15,10 +14,10 @@ use Rattle.codes.specs.declared.drivers.HandedUp.{HandedUp}
 use Rattle.codes.specs.Codes.{coded_opened, coded_sent, coded_served, coded_part}
 
 abbrev pub Opens : Card → List ℕ → List ℕ → Driver → ℕ → ℕ → ℕ → DriverDone → List ℕ → List ℕ → Type 0
-Opens c ram dir d w₀ w₁ w₂ r ram' dir' = (x : Opened) × ((r ≡ coded_opened x) × call.Opens c ram dir d w₀ w₁ w₂ x ram' dir')
+Opens c ram dir d w₀ w₁ w₂ r ram' dir' = (x : After ⊤) × ((r ≡ coded_opened x) × call.Opens c ram dir d w₀ w₁ w₂ x ram' dir')
 
 abbrev pub Sends : Card → List ℕ → List ℕ → Driver → List ℕ → DriverSent → List ℕ → List ℕ → Type 0
-Sends c ram dir d packet r ram' dir' = (x : Sent) × ((r ≡ coded_sent x) × call.Sends c ram dir d packet x ram' dir')
+Sends c ram dir d packet r ram' dir' = (x : After ℕ) × ((r ≡ coded_sent x) × call.Sends c ram dir d packet x ram' dir')
 
 abbrev pub Services : Card → List ℕ → List ℕ → Driver → ℕ → List ℕ → List ℕ → DriverServed → List ℕ → List ℕ → List ℕ → List ℕ → Type 0
 Services c ram dir d budget ahead frame r ram' dir' ahead' frame' =

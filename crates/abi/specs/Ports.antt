@@ -2,7 +2,7 @@
 use Rattle.std.specs.Prelude.{◌≡◌, ℕ}
 use Rattle.port_rules.specs.declared.Bus.{Bus}
 use Rattle.port_rules.specs.declared.AfterSearch.{AfterSearch}
-use Rattle.port_rules.specs.declared.AfterActivation.{AfterActivation}
+use Rattle.port_rules.specs.declared.After.{After}
 use Rattle.port_rules.specs.PortContracts as contract
 use Rattle.codes.specs.declared.ports.BusFound.{BusFound}
 use Rattle.codes.specs.declared.ports.BusDone.{BusDone}
@@ -12,4 +12,4 @@ abbrev pub Finds : Bus → ℕ → BusFound → Type 0
 Finds b port r = (x : AfterSearch) × ((r ≡ coded_found x) × contract.FindCards b port x)
 
 abbrev pub Activates : Bus → ℕ → ℕ → ℕ → BusDone → Type 0
-Activates b port tag base r = (x : AfterActivation) × ((r ≡ coded_activated x) × contract.ActivateCard b port tag base x)
+Activates b port tag base r = (x : After ℕ) × ((r ≡ coded_activated x) × contract.ActivateCard b port tag base x)

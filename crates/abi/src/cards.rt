@@ -10,8 +10,7 @@ use port_rules::IdState;
 pub extern "C" fn seamtrout_card_power_on(words: &[u16; 64]) -> Card
     ensures { says.PowersOn words.now result }
 {
-    let w = *words;
-    card::power_on(w)
+    card::power_on(*words)
 }
 
 // The host reads a word.
@@ -24,8 +23,7 @@ pub extern "C" fn seamtrout_card_read_word(
 ) -> CardRead
     ensures { says.ReadsWord c ram.now dir.now o result }
 {
-    let x = card::read_word(ram, dir, c, o);
-    codes::coded_read(x)
+    codes::coded_read(card::read_word(ram, dir, c, o))
 }
 
 // The host reads a byte.
@@ -38,8 +36,7 @@ pub extern "C" fn seamtrout_card_read_byte(
 ) -> CardRead
     ensures { says.ReadsByte c ram.now dir.now o result }
 {
-    let x = card::read_byte(ram, dir, c, o);
-    codes::coded_read(x)
+    codes::coded_read(card::read_byte(ram, dir, c, o))
 }
 
 // The host writes a word.
@@ -53,8 +50,7 @@ pub extern "C" fn seamtrout_card_write_word(
 ) -> CardDone
     ensures { says.WritesWord c ram.old dir.old o v result ram.new dir.new }
 {
-    let x = card::write_word(ram, dir, c, o, v);
-    codes::coded_done(x)
+    codes::coded_done(card::write_word(ram, dir, c, o, v))
 }
 
 // The host writes a byte.
@@ -68,8 +64,7 @@ pub extern "C" fn seamtrout_card_write_byte(
 ) -> CardDone
     ensures { says.WritesByte c ram.old dir.old o v result ram.new dir.new }
 {
-    let x = card::write_byte(ram, dir, c, o, v);
-    codes::coded_done(x)
+    codes::coded_done(card::write_byte(ram, dir, c, o, v))
 }
 
 // The wire starts a frame with its first 8 bytes.
@@ -82,9 +77,7 @@ pub extern "C" fn seamtrout_card_wire_start(
 ) -> CardDone
     ensures { says.Starts c ram.old dir.old first.now result ram.new dir.new }
 {
-    let eight = *first;
-    let x = card::wire_start(ram, dir, c, eight);
-    codes::coded_done(x)
+    codes::coded_done(card::wire_start(ram, dir, c, *first))
 }
 
 // The wire brings a byte.
@@ -97,8 +90,7 @@ pub extern "C" fn seamtrout_card_wire_byte(
 ) -> CardDone
     ensures { says.Brings c ram.old dir.old b result ram.new dir.new }
 {
-    let x = card::wire_byte(ram, dir, c, b);
-    codes::coded_done(x)
+    codes::coded_done(card::wire_byte(ram, dir, c, b))
 }
 
 // The wire ends the frame: check sequence good, alignment good.
@@ -112,8 +104,7 @@ pub extern "C" fn seamtrout_card_wire_end(
 ) -> CardDone
     ensures { says.Ends c ram.old dir.old check alignment result ram.new dir.new }
 {
-    let x = card::wire_end(ram, dir, c, check, alignment);
-    codes::coded_done(x)
+    codes::coded_done(card::wire_end(ram, dir, c, check, alignment))
 }
 
 // A send outcome: success.
@@ -126,8 +117,7 @@ pub extern "C" fn seamtrout_card_sent(
 ) -> CardTold
     ensures { says.Succeeds c ram.old dir.old out.old result ram.new dir.new out.new }
 {
-    let x = card::success(ram, dir, c, out);
-    codes::coded_told(x)
+    codes::coded_told(card::success(ram, dir, c, out))
 }
 
 // A send outcome: 16 collisions.
@@ -139,8 +129,7 @@ pub extern "C" fn seamtrout_card_collided(
 ) -> CardDone
     ensures { says.Collides c ram.old dir.old result ram.new dir.new }
 {
-    let x = card::collisions(ram, dir, c);
-    codes::coded_done(x)
+    codes::coded_done(card::collisions(ram, dir, c))
 }
 
 // An ID state, as the ID port left it, is seated as the card's own.
@@ -153,8 +142,7 @@ pub extern "C" fn seamtrout_card_seat(
 ) -> CardDone
     ensures { says.Seats c ram.now dir.now i result }
 {
-    let x = card::seat(ram, dir, c, i);
-    codes::coded_done(x)
+    codes::coded_done(card::seat(ram, dir, c, i))
 }
 
 // The interrupt line that the card drives, 0 for none.
@@ -166,8 +154,7 @@ pub extern "C" fn seamtrout_card_interrupt_line(
 ) -> CardLine
     ensures { says.Drives c ram.now dir.now result }
 {
-    let x = card::interrupt_line(ram, dir, c);
-    codes::coded_line(x)
+    codes::coded_line(card::interrupt_line(ram, dir, c))
 }
 
 // RX Status, whatever window is selected, and the unread bytes.
@@ -179,6 +166,5 @@ pub extern "C" fn seamtrout_card_rx_status(
 ) -> CardRxStatus
     ensures { says.Shows c ram.now dir.now result }
 {
-    let x = card::rx_status(ram, dir, c);
-    codes::coded_rx_status(x)
+    codes::coded_rx_status(card::rx_status(ram, dir, c))
 }

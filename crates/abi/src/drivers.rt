@@ -18,8 +18,7 @@ pub extern "C" fn seamtrout_driver_open(
 ) -> DriverDone
     ensures { says.Opens c ram.old dir.old d w0 w1 w2 result ram.new dir.new }
 {
-    let x = driver::open(ram, dir, c, d, w0, w1, w2);
-    codes::coded_opened(x)
+    codes::coded_opened(driver::open(ram, dir, c, d, w0, w1, w2))
 }
 
 // Send a packet, without its check bytes.
@@ -33,8 +32,7 @@ pub extern "C" fn seamtrout_driver_send(
 ) -> DriverSent
     ensures { says.Sends c ram.old dir.old d packet.now result ram.new dir.new }
 {
-    let x = driver::send(ram, dir, c, d, packet);
-    codes::coded_sent(x)
+    codes::coded_sent(driver::send(ram, dir, c, d, packet))
 }
 
 // Service, with at most `budget` accesses. A frame of up to 256 bytes lands in `ahead`, a longer one in `frame`.
@@ -50,8 +48,7 @@ pub extern "C" fn seamtrout_driver_service(
 ) -> DriverServed
     ensures { says.Services c ram.old dir.old d budget ahead.old frame.old result ram.new dir.new ahead.new frame.new }
 {
-    let x = driver::service(ram, dir, c, d, budget, ahead, frame);
-    codes::coded_served(x)
+    codes::coded_served(driver::service(ram, dir, c, d, budget, ahead, frame))
 }
 
 // The part of the areas that a frame of n bytes was handed up in; empty if its area does not hold n bytes.

@@ -1,11 +1,16 @@
 // One card on the ID port. The host's reads are a wired-and over all cards: each tells what it drives, and hears what the bus carried.
 ghost use Rattle.std.specs.Prelude.{◌≡◌, true};
+ghost use Rattle.refusal.specs.declared.Refusal.TheVariants.{ArgumentOutside};
 ghost use Rattle.port_rules.specs.Sound.{id_sound};
+ghost use Rattle.port_rules.specs.Gathered.{is_port};
+ghost use Rattle.card_rules.specs.View.{sound_card};
+ghost use Rattle.card_rules.specs.Calls.{tested};
 ghost use Rattle.abi.specs.Ids as says;
 
 use card_rules::Card;
 use codes::CardDone;
 use port_rules::IdState;
+use refusal::Refusal;
 
 // The bit that a card drives, and the code.
 #[repr(C)]
@@ -15,22 +20,32 @@ pub struct CardBit {
     pub code: u8,
 }
 
+// Refusal 1 of an unsound state, and 12 of a port that is not 1x0h.
+fn tested(ram: &[u8; 8192], dir: &[u16; 1110], c: Card, port: u16) -> Result<(), Refusal>
+    ensures { result ≡ tested (sound_card c ram.now dir.now) (is_port port) ArgumentOutside }
+{
+    if !regs::is_sound(ram, dir, c) {
+        return Err(Refusal::StateUnsound);
+    }
+    if !idport::is_port(port) {
+        return Err(Refusal::ArgumentOutside);
+    }
+    Ok(())
+}
+
 // The ID state that a step at the port left is seated, unless the call is refused.
 fn seated(ram: &[u8; 8192], dir: &[u16; 1110], c: Card, port: u16, i: IdState) -> CardDone
     requires { id_sound c.id ≡ true → id_sound i ≡ true }
     ensures { says.Seated (says.refusal c ram.now dir.now port) i c ram.now dir.now result }
 {
-    if !regs::is_sound(ram, dir, c) {
-        return CardDone { card: c, code: 1 };
-    }
-    if !idport::is_port(port) {
-        return CardDone { card: c, code: 12 };
+    if let Err(why) = tested(ram, dir, c, port) {
+        return CardDone {
+            card: c,
+            code: refusal::number(why),
+        };
     }
     let card = steps::seat(ram, dir, c, i);
-    CardDone {
-        card: card,
-        code: 0,
-    }
+    CardDone { card, code: 0 }
 }
 
 // A byte written to the ID port, as this card sees it.
@@ -58,24 +73,16 @@ pub extern "C" fn seamtrout_card_id_bit(
 ) -> CardBit
     ensures { result ≡ says.bit_of c ram.now dir.now port }
 {
-    if !regs::is_sound(ram, dir, c) {
-        return CardBit { bit: 0, code: 1 };
+    if let Err(why) = tested(ram, dir, c, port) {
+        return CardBit {
+            bit: 0,
+            code: refusal::number(why),
+        };
     }
-    if !idport::is_port(port) {
-        return CardBit { bit: 0, code: 12 };
+    CardBit {
+        bit: idport::bit(c.id, port),
+        code: 0,
     }
-    let bit = idport::bit(c.id, port);
-    CardBit { bit: bit, code: 0 }
-}
-
-// A bit as C hands it in: 0, or else 1.
-fn as_bit(bus: u8) -> u8
-    ensures { result ≡ says.as_bit bus }
-{
-    if bus == 0 {
-        return 0;
-    }
-    1
 }
 
 // The port was read, and the bus carried `bus` (0, or else 1): this card's part in the contention.
@@ -89,6 +96,6 @@ pub extern "C" fn seamtrout_card_id_hear(
 ) -> CardDone
     ensures { says.Hears c ram.now dir.now port bus result }
 {
-    let i = idport::heard(c.id, port, as_bit(bus));
+    let i = idport::heard(c.id, port, bus.min(1));
     seated(ram, dir, c, port, i)
 }

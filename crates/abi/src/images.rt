@@ -10,6 +10,5 @@ use codes::ImageChecked;
 pub extern "C" fn seamtrout_image_checked(image: &[u8]) -> ImageChecked
     ensures { result ≡ coded_check (check_of image.now) }
 {
-    let x = image_check::check(image);
-    codes::coded_check(x)
+    codes::coded_check(image_check::check(image))
 }

@@ -9,8 +9,7 @@ use port_rules::Bus;
 pub extern "C" fn seamtrout_bus_search(b: Bus, port: u16) -> BusFound
     ensures { says.Finds b port result }
 {
-    let x = port::find_cards(b, port);
-    codes::coded_found(x)
+    codes::coded_found(port::find_cards(b, port))
 }
 
 // Activation of the card with this tag at this base number; 31 means preconfigured.
@@ -18,6 +17,5 @@ pub extern "C" fn seamtrout_bus_search(b: Bus, port: u16) -> BusFound
 pub extern "C" fn seamtrout_bus_activate(b: Bus, port: u16, tag: u8, base: u8) -> BusDone
     ensures { says.Activates b port tag base result }
 {
-    let x = port::activate_card(b, port, tag, base);
-    codes::coded_activated(x)
+    codes::coded_activated(port::activate_card(b, port, tag, base))
 }

@@ -3,4 +3,4 @@
 use Rattle.abi.proofs.cards.seamtrout_card_collided.Goals as goal
 
 pub returns : goal.returns
-returns c = (c.collisions-x.result, (c.coded_done.ensures, c.collisions-x.ensures))
+returns c = (c.collisions.result, (c.coded_done.ensures, c.collisions.ensures))

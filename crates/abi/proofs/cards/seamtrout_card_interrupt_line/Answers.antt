@@ -3,4 +3,4 @@
 use Rattle.abi.proofs.cards.seamtrout_card_interrupt_line.Goals as goal
 
 pub returns : goal.returns
-returns c = (c.interrupt_line-x.result, (c.coded_line.ensures, c.interrupt_line-x.ensures))
+returns c = (c.interrupt_line.result, (c.coded_line.ensures, c.interrupt_line.ensures))

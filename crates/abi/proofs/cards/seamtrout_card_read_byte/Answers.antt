@@ -3,4 +3,4 @@
 use Rattle.abi.proofs.cards.seamtrout_card_read_byte.Goals as goal
 
 pub returns : goal.returns
-returns c = (c.read_byte-x.result, (c.coded_read.ensures, c.read_byte-x.ensures))
+returns c = (c.read_byte.result, (c.coded_read.ensures, c.read_byte.ensures))

@@ -3,4 +3,4 @@
 use Rattle.abi.proofs.cards.seamtrout_card_read_word.Goals as goal
 
 pub returns : goal.returns
-returns c = (c.read_word-x.result, (c.coded_read.ensures, c.read_word-x.ensures))
+returns c = (c.read_word.result, (c.coded_read.ensures, c.read_word.ensures))

@@ -3,4 +3,4 @@
 use Rattle.abi.proofs.cards.seamtrout_card_rx_status.Goals as goal
 
 pub returns : goal.returns
-returns c = (c.rx_status-x.result, (c.coded_rx_status.ensures, c.rx_status-x.ensures))
+returns c = (c.rx_status.result, (c.coded_rx_status.ensures, c.rx_status.ensures))

@@ -3,4 +3,4 @@
 use Rattle.abi.proofs.cards.seamtrout_card_seat.Goals as goal
 
 pub returns : goal.returns
-returns c = (c.seat-x.result, (c.coded_done.ensures, c.seat-x.ensures))
+returns c = (c.seat.result, (c.coded_done.ensures, c.seat.ensures))

@@ -3,4 +3,4 @@
 use Rattle.abi.proofs.cards.seamtrout_card_sent.Goals as goal
 
 pub returns : goal.returns
-returns c = (c.success-x.result, (c.coded_told.ensures, (c.success-x.ensures.success, c.success-x.ensures.success_area)))
+returns c = (c.success.result, (c.coded_told.ensures, (c.success.ensures.success, c.success.ensures.success_area)))

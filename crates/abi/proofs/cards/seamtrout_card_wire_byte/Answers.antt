@@ -3,4 +3,4 @@
 use Rattle.abi.proofs.cards.seamtrout_card_wire_byte.Goals as goal
 
 pub returns : goal.returns
-returns c = (c.wire_byte-x.result, (c.coded_done.ensures, c.wire_byte-x.ensures))
+returns c = (c.wire_byte.result, (c.coded_done.ensures, c.wire_byte.ensures))

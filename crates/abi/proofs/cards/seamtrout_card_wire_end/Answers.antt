@@ -3,4 +3,4 @@
 use Rattle.abi.proofs.cards.seamtrout_card_wire_end.Goals as goal
 
 pub returns : goal.returns
-returns c = (c.wire_end-x.result, (c.coded_done.ensures, c.wire_end-x.ensures))
+returns c = (c.wire_end.result, (c.coded_done.ensures, c.wire_end.ensures))

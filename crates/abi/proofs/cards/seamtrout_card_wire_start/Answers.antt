@@ -3,4 +3,4 @@
 use Rattle.abi.proofs.cards.seamtrout_card_wire_start.Goals as goal
 
 pub returns : goal.returns
-returns c = (c.wire_start-x.result, (c.coded_done.ensures, c.wire_start-x.ensures))
+returns c = (c.wire_start.result, (c.coded_done.ensures, c.wire_start.ensures))

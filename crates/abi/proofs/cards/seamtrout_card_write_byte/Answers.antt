@@ -3,4 +3,4 @@
 use Rattle.abi.proofs.cards.seamtrout_card_write_byte.Goals as goal
 
 pub returns : goal.returns
-returns c = (c.write_byte-x.result, (c.coded_done.ensures, c.write_byte-x.ensures))
+returns c = (c.write_byte.result, (c.coded_done.ensures, c.write_byte.ensures))

@@ -3,4 +3,4 @@
 use Rattle.abi.proofs.cards.seamtrout_card_write_word.Goals as goal
 
 pub returns : goal.returns
-returns c = (c.write_word-x.result, (c.coded_done.ensures, c.write_word-x.ensures))
+returns c = (c.write_word.result, (c.coded_done.ensures, c.write_word.ensures))

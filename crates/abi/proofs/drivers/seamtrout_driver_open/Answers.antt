@@ -3,4 +3,4 @@
 use Rattle.abi.proofs.drivers.seamtrout_driver_open.Goals as goal
 
 pub returns : goal.returns
-returns c = (c.open-x.result, (c.coded_opened.ensures, c.open-x.ensures))
+returns c = (c.open.result, (c.coded_opened.ensures, c.open.ensures))

@@ -3,4 +3,4 @@
 use Rattle.abi.proofs.drivers.seamtrout_driver_send.Goals as goal
 
 pub returns : goal.returns
-returns c = (c.send-x.result, (c.coded_sent.ensures, c.send-x.ensures))
+returns c = (c.send.result, (c.coded_sent.ensures, c.send.ensures))

@@ -3,4 +3,4 @@
 use Rattle.abi.proofs.drivers.seamtrout_driver_service.Goals as goal
 
 pub returns : goal.returns
-returns c = (c.service-x.result, (c.coded_served.ensures, c.service-x.ensures))
+returns c = (c.service.result, (c.coded_served.ensures, c.service.ensures))

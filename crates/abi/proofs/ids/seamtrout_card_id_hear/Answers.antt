@@ -7,4 +7,4 @@ pub seated-requires : goal.seated-requires
 seated-requires c = hear_sound _ _ _ _ c.heard-i.ensures
 
 pub returns : goal.returns
-returns c = rw (← c.as_bit.ensures, ← c.heard-i.ensures) c.seated.ensures
+returns c = rw (← c.min.ensures, ← c.heard-i.ensures) c.seated.ensures

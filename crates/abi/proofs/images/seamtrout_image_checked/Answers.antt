@@ -3,4 +3,4 @@
 use Rattle.abi.proofs.images.seamtrout_image_checked.Goals as goal
 
 pub returns : goal.returns
-returns c = rw (← c.check-x.ensures) c.coded_check.ensures
+returns c = rw (← c.check.ensures) c.coded_check.ensures

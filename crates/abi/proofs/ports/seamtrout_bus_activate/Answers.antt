@@ -3,4 +3,4 @@
 use Rattle.abi.proofs.ports.seamtrout_bus_activate.Goals as goal
 
 pub returns : goal.returns
-returns c = (c.activate_card-x.result, (c.coded_activated.ensures, c.activate_card-x.ensures))
+returns c = (c.activate_card.result, (c.coded_activated.ensures, c.activate_card.ensures))

@@ -3,4 +3,4 @@
 use Rattle.abi.proofs.ports.seamtrout_bus_search.Goals as goal
 
 pub returns : goal.returns
-returns c = (c.find_cards-x.result, (c.coded_found.ensures, c.find_cards-x.ensures))
+returns c = (c.find_cards.result, (c.coded_found.ensures, c.find_cards.ensures))

@@ -50,11 +50,7 @@ pub fn tx_reset(mut c: Card) -> Card
     ensures { Does c result tx_reset }
 {
     c.transmit = Transmit {
-        fifo: Fifo {
-            failed: false,
-            packets: 0,
-            words: 0,
-        },
+        fifo: Fifo::default(),
         outcomes: transmit::reset(c.transmit.outcomes),
     };
     c

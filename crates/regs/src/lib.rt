@@ -177,11 +177,7 @@ pub fn power_on(words: [u16; 64], wire: u8) -> Card
         },
         receive: quiet(wire),
         transmit: Transmit {
-            fifo: Fifo {
-                failed: false,
-                packets: 0,
-                words: 0,
-            },
+            fifo: Fifo::default(),
             outcomes: outcomes::fresh(),
         },
     }

@@ -1,6 +1,6 @@
 -- A sound queue, as facts of numbers. Assumes nothing.
 use mathlib.Core.Path.{◌≡◌, refl}
-use mathlib.Core.Bool.{Bool, true, ◌&&◌, ◌||◌}
+use mathlib.Core.Bool.{Bool, true, false, ◌&&◌, ◌||◌}
 use mathlib.Core.List.{List}
 use Prim.Native.Nat.{ℕ, zero, suc, ◌+◌, ◌*◌, ◌-◌, ◌≤◌, ◌<◌}
 use native.Mathlib.Omega.{arith}
@@ -89,3 +89,7 @@ module _ (size : ℕ) (f : Fifo) (ram dir : List ℕ) (H : Holds size f ram dir)
 
   pub grows : 0 < f.words → Grows f.words (get_or dir (768 + f.packets) 0)
   grows h = grown size f.packets f.words ram dir h halves.2
+
+-- a FIFO with nothing in it
+pub empty_fifo : (f : Fifo) → (f.failed ≡ false) × ((f.packets ≡ 0) × (f.words ≡ 0)) → f ≡ record { failed = false; packets = 0; words = 0 }
+empty_fifo f e = λ i. record { failed = e.0 i; packets = e.1.0 i; words = e.1.1 i }

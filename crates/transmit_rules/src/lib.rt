@@ -3,7 +3,7 @@
 
 // `packets`: how many are whole; `words`: how many have come of the one being written.
 #[repr(C)]
-#[derive(Clone, Copy)]
+#[derive(Clone, Copy, Default)]
 pub struct Fifo {
     pub failed: bool,
     pub packets: usize,

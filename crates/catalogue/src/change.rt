@@ -1,60 +1,41 @@
 // The commands that change a catalogue.
 use crate::refused;
 use catalogue_lib::{files, lock};
-use catalogue_rules::{Seek, Written};
 
 // The version that an image's card has got, read out of the new file.
 fn say_version(rt: &HostRuntime, file: &[u8], image: &[u8]) {
     let address = catalogue_add::address_of(image);
-    match catalogue_put::card_place(file, address) {
-        Seek::Missing => {}
-        Seek::Behind(at) => catalogue_text::added(
-            rt,
-            catalogue_put::last_number(file, at),
-            address,
-        ),
+    if let Some(at) = catalogue_put::card_place(file, address) {
+        catalogue_text::added(rt, catalogue_put::last_number(file, at), address);
     }
 }
 
 // Writes the new file, and says what version it has got; nothing where the file itself goes to standard output.
 fn put_added(rt: &HostRuntime, path: &[u8], file: &[u8], image: &[u8]) {
-    if !files::put(rt, path, file) {
-        return;
+    if files::put(rt, path, file) && !catalogue_text::is_dash(path) {
+        say_version(rt, file, image);
     }
-    if catalogue_text::is_dash(path) {
-        return;
-    }
-    say_version(rt, file, image);
 }
 
 fn add_to(rt: &HostRuntime, path: &[u8], from: &[u8]) {
     let mut room = files::room();
-    let got = files::read(rt, path, &mut room);
-    if !got.ok {
+    let Some(file) = files::read(rt, path, &mut room) else {
         return;
-    }
+    };
     // One byte more than an image has tells a longer file.
-    let mut image = [0u8; 129];
-    let read = files::read_start(rt, from, &mut image);
-    if !read.ok {
+    let mut start = [0u8; 129];
+    let Some(image) = files::read_start(rt, from, &mut start) else {
         return;
-    }
-    let n = got.len;
-    let k = read.len;
+    };
     let mut out = files::room();
-    match catalogue_add::add(&room[..n], &image[..k], &mut out) {
-        Written::Refused(why) => refused::addition(rt, &room[..n], &image[..k], why),
-        Written::Bytes(size) => put_added(
-            rt,
-            path,
-            catalogue_lookup::part(&out, 0, size),
-            &image[..k],
-        ),
+    match catalogue_add::add(file, image.bytes, &mut out) {
+        Err(why) => refused::addition(rt, file, image.bytes, why),
+        Ok(size) => put_added(rt, path, catalogue_lookup::part(&out, 0, size), image.bytes),
     }
 }
 
 pub fn add(rt: &HostRuntime, path: &[u8], from: &[u8]) {
-    if catalogue_text::is_dash(path) & catalogue_text::is_dash(from) {
+    if catalogue_text::is_dash(path) && catalogue_text::is_dash(from) {
         catalogue_text::usage(rt);
         return;
     }
@@ -67,29 +48,26 @@ pub fn add(rt: &HostRuntime, path: &[u8], from: &[u8]) {
 
 fn drop_from(rt: &HostRuntime, path: &[u8], address: u64) {
     let mut room = files::room();
-    let got = files::read(rt, path, &mut room);
-    if !got.ok {
+    let Some(file) = files::read(rt, path, &mut room) else {
         return;
-    }
-    let n = got.len;
+    };
     let mut out = files::room();
-    match catalogue_drop::drop_oldest(&room[..n], address, &mut out) {
-        Written::Refused(why) => refused::file(rt, &room[..n], why),
-        Written::Bytes(size) => {
+    match catalogue_drop::drop_oldest(file, address, &mut out) {
+        Err(why) => refused::file(rt, file, why),
+        Ok(size) => {
             files::put(rt, path, catalogue_lookup::part(&out, 0, size));
         }
     }
 }
 
 pub fn drop(rt: &HostRuntime, path: &[u8], address: &[u8]) {
-    let who = catalogue_text::address(address);
-    if !who.ok {
+    let Some(who) = catalogue_text::address(address) else {
         catalogue_text::usage(rt);
         return;
-    }
+    };
     if !lock::take(rt, path) {
         return;
     }
-    drop_from(rt, path, who.value);
+    drop_from(rt, path, who);
     lock::release(rt, path);
 }

@@ -1,32 +1,24 @@
 // What is said of a refusal: a line that begins with its number, and says where the refused bytes are wrong.
-use catalogue_rules::Judged;
-use catalogue_text::{source, warn, warn_address, warn_number};
-use catalogue_why::Full;
+use catalogue_text::{source, warn};
+use catalogue_why::{Again, Full, Pair};
 use refusal::Refusal;
 
 fn begin(rt: &HostRuntime, why: Refusal) {
-    warn(rt, b"refused ");
-    warn_number(rt, refusal::number(why) as usize);
-    warn(rt, b": ");
+    let _ = eprint!(rt; "refused {}: ", refusal::number(why));
 }
 
-fn at_byte(rt: &HostRuntime, what: &[u8], place: usize) {
-    warn(rt, what);
-    warn(rt, b", at byte ");
-    warn_number(rt, place);
+fn at_byte(rt: &HostRuntime, what: &str, place: usize) {
+    let _ = eprint!(rt; "{what}, at byte {place}");
 }
 
 fn listed_twice(rt: &HostRuntime, file: &[u8]) {
-    let again = catalogue_why::repeated(file);
-    warn(rt, b"an address is listed twice: ");
-    warn_address(rt, again.address);
-    warn(rt, b", again at byte ");
-    warn_number(rt, again.at);
+    if let Some(Again { address, at }) = catalogue_why::repeated(file) {
+        let _ = eprint!(rt; "an address is listed twice: {address:012X}, again at byte {at}");
+    }
 }
 
 fn too_many(rt: &HostRuntime, cards: usize) {
-    warn(rt, b"no room for a card: it has ");
-    warn_number(rt, cards);
+    let _ = eprint!(rt; "no room for a card: it has {cards}");
 }
 
 // What is wrong with a file, or with the image that is to go in.
@@ -37,8 +29,8 @@ fn words(rt: &HostRuntime, file: &[u8], why: Refusal) {
         Refusal::ChecksumWrong => warn(rt, b"word 0Fh of an image is not the checksum"),
         Refusal::SecondaryWrong => warn(rt, b"word 17h of an image is not the secondary checksums"),
         Refusal::ArgumentOutside => warn(rt, b"no room to write the changed file"),
-        Refusal::FieldDamaged => at_byte(rt, b"a field is damaged", catalogue_why::damage(file)),
-        Refusal::FileEndsEarly => at_byte(rt, b"the file ends early", catalogue_why::end(file)),
+        Refusal::FieldDamaged => at_byte(rt, "a field is damaged", catalogue_why::damage(file)),
+        Refusal::FileEndsEarly => at_byte(rt, "the file ends early", catalogue_why::end(file)),
         Refusal::NoSuchCard => warn(rt, b"no such card"),
         Refusal::NoPlace => too_many(rt, catalogue_why::cards(file)),
         Refusal::ListedTwice => listed_twice(rt, file),
@@ -56,7 +48,7 @@ pub fn file(rt: &HostRuntime, file: &[u8], why: Refusal) {
 // Of a version of a card.
 pub fn version(rt: &HostRuntime, file: &[u8], address: u64, why: Refusal) {
     begin(rt, why);
-    if (refusal::number(why) == 17) & catalogue_read::listed(file, 0, address) {
+    if why == Refusal::NoSuchCard && catalogue_read::listed(file, 0, address) {
         warn(rt, b"no such version\n");
         return;
     }
@@ -76,7 +68,7 @@ fn full(rt: &HostRuntime, file: &[u8], address: u64) {
 // Of a version that was to go in.
 pub fn addition(rt: &HostRuntime, file: &[u8], image: &[u8], why: Refusal) {
     begin(rt, why);
-    if (refusal::number(why) == 18) & (catalogue_why::cards(file) <= 64) {
+    if why == Refusal::NoPlace && catalogue_why::cards(file) <= 64 {
         full(rt, file, catalogue_add::address_of(image));
     } else {
         words(rt, file, why);
@@ -85,40 +77,31 @@ pub fn addition(rt: &HostRuntime, file: &[u8], image: &[u8], why: Refusal) {
 }
 
 // A word of the first image that has it wrong.
-fn word_of(rt: &HostRuntime, archive: &[u8], word: &[u8], why: Refusal, is_not: &[u8]) {
-    warn(rt, word);
-    warn(rt, b" of image ");
-    warn_number(rt, catalogue_why::unsound(archive, refusal::number(why)));
-    warn(rt, is_not);
+fn word_of(rt: &HostRuntime, archive: &[u8], word: &str, why: Refusal, is_not: &str) {
+    if let Some(image) = catalogue_why::unsound(archive, why) {
+        let _ = eprint!(rt; "word {word} of image {image} is not {is_not}");
+    }
 }
 
 fn twins(rt: &HostRuntime, archive: &[u8]) {
-    let both = catalogue_why::twins(archive);
-    warn(rt, b"images ");
-    warn_number(rt, both.first);
-    warn(rt, b" and ");
-    warn_number(rt, both.second);
-    warn(rt, b" have one address");
+    if let Some(Pair { first, second }) = catalogue_why::twins(archive) {
+        let _ = eprint!(rt; "images {first} and {second} have one address");
+    }
+}
+
+fn cut_image(rt: &HostRuntime, archive: &[u8]) {
+    let image = archive.len() / 128 + 1;
+    let _ = eprint!(rt; "not 128 bytes to an image: image {image} is cut");
 }
 
 // Of an archive that was to be moved in.
 pub fn archive(rt: &HostRuntime, archive: &[u8], why: Refusal) {
     begin(rt, why);
     match why {
-        Refusal::LengthOutside => {
-            warn(rt, b"not 128 bytes to an image: image ");
-            warn_number(rt, archive.len() / 128 + 1);
-            warn(rt, b" is cut");
-        }
-        Refusal::MakerWrong => word_of(rt, archive, b"word 07h", why, b" is not 6D50h"),
-        Refusal::ChecksumWrong => word_of(rt, archive, b"word 0Fh", why, b" is not the checksum"),
-        Refusal::SecondaryWrong => word_of(
-            rt,
-            archive,
-            b"word 17h",
-            why,
-            b" is not the secondary checksums",
-        ),
+        Refusal::LengthOutside => cut_image(rt, archive),
+        Refusal::MakerWrong => word_of(rt, archive, "07h", why, "6D50h"),
+        Refusal::ChecksumWrong => word_of(rt, archive, "0Fh", why, "the checksum"),
+        Refusal::SecondaryWrong => word_of(rt, archive, "17h", why, "the secondary checksums"),
         Refusal::NoPlace => too_many(rt, archive.len() / 128),
         Refusal::ListedTwice => twins(rt, archive),
         _ => words(rt, archive, why),
@@ -126,21 +109,10 @@ pub fn archive(rt: &HostRuntime, archive: &[u8], why: Refusal) {
     warn(rt, b"\n");
 }
 
-// Whether the check of a file answers this refusal.
-fn is_due(file: &[u8], why: Refusal) -> bool {
-    match catalogue_read::check(file) {
-        Judged::Refused(own) => refusal::number(own) == refusal::number(why),
-        Judged::Sound {
-            cards: _,
-            fields: _,
-        } => false,
-    }
-}
-
 fn named(rt: &HostRuntime, file: &[u8], path: &[u8], why: Refusal) {
     words(rt, file, why);
     warn(rt, b", in ");
-    source(rt, path);
+    warn(rt, source(path));
     warn(rt, b"\n");
 }
 
@@ -154,13 +126,11 @@ pub fn lookup(
     why: Refusal,
 ) {
     begin(rt, why);
-    if refusal::number(why) == 17 {
+    if why == Refusal::NoSuchCard {
         warn(rt, b"no such card\n");
-        return;
-    }
-    if is_due(own, why) {
+    } else if catalogue_read::check(own).is_err_and(|due| due == why) {
         named(rt, own, own_path, why);
-        return;
+    } else {
+        named(rt, main, main_path, why);
     }
-    named(rt, main, main_path, why);
 }

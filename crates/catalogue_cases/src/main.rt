@@ -2,10 +2,10 @@
 // Makes the calls of the catalogue that its arguments name and prints what each answers, a line each. A call is five
 // words: its name, two operands, the size of the lent area (or most, for as much as a file may have), and the file that
 // has the bytes it is to write; - for none.
-ghost use Rattle.std.specs.Prelude.{◌+◌, ◌<◌};
+ghost use Rattle.std.specs.Prelude.{◌+◌, ◌<◌, ◌≤◌, length};
 
 use catalogue_lib::files;
-use catalogue_rules::{Hit, Judged, Place, Written};
+use catalogue_rules::{Hit, Span};
 use refusal::Refusal;
 
 // Says so; what standard output does not take is lost.
@@ -14,80 +14,81 @@ fn tell(rt: &HostRuntime, text: &[u8]) {
 }
 
 fn refused(rt: &HostRuntime, why: Refusal) {
-    tell(rt, b"refused ");
-    let _ = rt.print(refusal::number(why));
-    tell(rt, b"\n");
+    let _ = println!(rt; "refused {}", refusal::number(why));
+}
+
+// What a file begins with, as much as the room holds; nothing where it cannot be read. Says what failed, or that it is larger.
+fn read<'a>(rt: &HostRuntime, path: &[u8], room: &'a mut [u8]) -> &'a [u8] {
+    let size = room.len();
+    match files::read_start(rt, path, room) {
+        Some(got) => {
+            if got.more {
+                catalogue_text::larger(rt, path, size);
+            }
+            got.bytes
+        }
+        None => &[],
+    }
 }
 
 fn check(rt: &HostRuntime, a: &[u8]) {
-    let mut room = files::room();
-    let got = files::read(rt, a, &mut room);
-    let n = got.len;
-    match catalogue_read::check(&room[..n]) {
-        Judged::Refused(why) => refused(rt, why),
-        Judged::Sound { cards, fields } => catalogue_text::sound(rt, cards, fields),
+    match catalogue_read::check(read(rt, a, &mut files::room())) {
+        Err(why) => refused(rt, why),
+        Ok(counts) => catalogue_text::sound(rt, counts),
     }
 }
 
-fn at(rt: &HostRuntime, what: &[u8], start: usize, len: usize) {
-    tell(rt, what);
-    let _ = rt.print(len);
-    tell(rt, b" bytes at ");
-    let _ = rt.print(start);
-    tell(rt, b"\n");
+fn at(rt: &HostRuntime, what: &str, span: Span) {
+    let Span { start, len } = span;
+    let _ = println!(rt; "{what}{len} bytes at {start}");
 }
 
-fn place(rt: &HostRuntime, found: Place) {
+fn place(rt: &HostRuntime, found: Result<Span, Refusal>) {
     match found {
-        Place::Refused(why) => refused(rt, why),
-        Place::At { start, len } => at(rt, b"", start, len),
+        Err(why) => refused(rt, why),
+        Ok(span) => at(rt, "", span),
     }
+}
+
+// An address; 0 where the word is none.
+fn address(word: &[u8]) -> u64 {
+    catalogue_text::address(word).unwrap_or(0)
 }
 
 fn latest(rt: &HostRuntime, a: &[u8], b: &[u8]) {
     let mut room = files::room();
-    let got = files::read(rt, a, &mut room);
-    let n = got.len;
-    let who = catalogue_text::address(b);
-    place(rt, catalogue_lookup::latest(&room[..n], who.value));
+    let file = read(rt, a, &mut room);
+    place(rt, catalogue_lookup::latest(file, address(b)));
 }
 
 // A version's number stands in the place of the area's size.
 fn given(rt: &HostRuntime, a: &[u8], b: &[u8], number: u16) {
     let mut room = files::room();
-    let got = files::read(rt, a, &mut room);
-    let n = got.len;
-    let who = catalogue_text::address(b);
-    place(rt, catalogue_lookup::given(&room[..n], who.value, number));
+    let file = read(rt, a, &mut room);
+    place(rt, catalogue_lookup::given(file, address(b), number));
 }
 
 // The address stands in the place of the area's size.
-fn lookup(rt: &HostRuntime, a: &[u8], b: &[u8], address: &[u8]) {
-    let mut own = files::room();
-    let first = files::read(rt, a, &mut own);
-    let n = first.len;
-    let mut main = files::room();
-    let second = files::read(rt, b, &mut main);
-    let k = second.len;
-    let who = catalogue_text::address(address);
-    match catalogue_lookup::lookup(&own[..n], &main[..k], who.value) {
-        Hit::Nowhere(why) => refused(rt, why),
-        Hit::InOverride { start, len } => at(rt, b"override, ", start, len),
-        Hit::InMain { start, len } => at(rt, b"main, ", start, len),
+fn lookup(rt: &HostRuntime, a: &[u8], b: &[u8], who: &[u8]) {
+    let mut room = files::room();
+    let own = read(rt, a, &mut room);
+    let mut other = files::room();
+    let main = read(rt, b, &mut other);
+    match catalogue_lookup::lookup(own, main, address(who)) {
+        Err(why) => refused(rt, why),
+        Ok(Hit::InOverride(span)) => at(rt, "override, ", span),
+        Ok(Hit::InMain(span)) => at(rt, "main, ", span),
     }
 }
 
 // What a change answered, and whether the area begins with the bytes of a file.
-fn written(rt: &HostRuntime, change: Written, out: &[u8], res: &[u8]) {
+fn written(rt: &HostRuntime, change: Result<usize, Refusal>, out: &[u8], res: &[u8]) {
     match change {
-        Written::Refused(why) => refused(rt, why),
-        Written::Bytes(n) => {
-            tell(rt, b"bytes ");
-            let _ = rt.print(n);
+        Err(why) => refused(rt, why),
+        Ok(n) => {
+            let _ = print!(rt; "bytes {n}");
             let mut room = files::room();
-            let got = files::read(rt, res, &mut room);
-            let k = got.len;
-            if catalogue_lookup::part(out, 0, n) == &room[..k] {
+            if catalogue_lookup::part(out, 0, n) == read(rt, res, &mut room) {
                 tell(rt, b", those of ");
             } else {
                 tell(rt, b", NOT those of ");
@@ -100,60 +101,50 @@ fn written(rt: &HostRuntime, change: Written, out: &[u8], res: &[u8]) {
 
 fn add(rt: &HostRuntime, a: &[u8], b: &[u8], out: &mut [u8], res: &[u8]) {
     let mut room = files::room();
-    let got = files::read(rt, a, &mut room);
-    let n = got.len;
+    let file = read(rt, a, &mut room);
     let mut image = [0u8; 129];
-    let read = files::read_start(rt, b, &mut image);
-    let k = read.len;
-    let change = catalogue_add::add(&room[..n], &image[..k], out);
+    let image = match files::read_start(rt, b, &mut image) {
+        Some(got) => got.bytes,
+        None => &[],
+    };
+    let change = catalogue_add::add(file, image, out);
     written(rt, change, out, res);
 }
 
 fn drop(rt: &HostRuntime, a: &[u8], b: &[u8], out: &mut [u8], res: &[u8]) {
     let mut room = files::room();
-    let got = files::read(rt, a, &mut room);
-    let n = got.len;
-    let who = catalogue_text::address(b);
-    let change = catalogue_drop::drop_oldest(&room[..n], who.value, out);
+    let file = read(rt, a, &mut room);
+    let change = catalogue_drop::drop_oldest(file, address(b), out);
     written(rt, change, out, res);
 }
 
 fn import(rt: &HostRuntime, a: &[u8], out: &mut [u8], res: &[u8]) {
     let mut room = files::room();
-    let got = files::read(rt, a, &mut room);
-    let n = got.len;
-    let change = catalogue_row::import(&room[..n], out);
+    let change = catalogue_row::import(read(rt, a, &mut room), out);
     written(rt, change, out, res);
 }
 
 fn export(rt: &HostRuntime, a: &[u8], out: &mut [u8], res: &[u8]) {
     let mut room = files::room();
-    let got = files::read(rt, a, &mut room);
-    let n = got.len;
-    let change = catalogue_row::export(&room[..n], out);
+    let change = catalogue_row::export(read(rt, a, &mut room), out);
     written(rt, change, out, res);
 }
 
 // A call that is lent an area.
 fn change(rt: &HostRuntime, call: &[u8], a: &[u8], b: &[u8], out: &mut [u8], res: &[u8]) {
-    if call == b"add".as_slice() {
-        add(rt, a, b, out, res);
-    } else if call == b"drop".as_slice() {
-        drop(rt, a, b, out, res);
-    } else if call == b"import".as_slice() {
-        import(rt, a, out, res);
-    } else if call == b"export".as_slice() {
-        export(rt, a, out, res);
-    } else {
-        tell(rt, b"no such call\n");
+    match call {
+        b"add" => add(rt, a, b, out, res),
+        b"drop" => drop(rt, a, b, out, res),
+        b"import" => import(rt, a, out, res),
+        b"export" => export(rt, a, out, res),
+        _ => tell(rt, b"no such call\n"),
     }
 }
 
 // Lends an area of so many bytes.
 fn lend(rt: &HostRuntime, call: &[u8], a: &[u8], b: &[u8], size: u16, res: &[u8]) {
     let mut out = [0u8; 65536];
-    let area = size as usize;
-    change(rt, call, a, b, &mut out[..area], res);
+    change(rt, call, a, b, &mut out[..usize::from(size)], res);
 }
 
 // Lends as much as the largest file takes.
@@ -163,41 +154,36 @@ fn lend_most(rt: &HostRuntime, call: &[u8], a: &[u8], b: &[u8], res: &[u8]) {
 }
 
 fn run(rt: &HostRuntime, call: &[u8], a: &[u8], b: &[u8], size: &[u8], res: &[u8]) {
-    let number = catalogue_text::version(size);
-    if call == b"check".as_slice() {
-        check(rt, a);
-        return;
+    let number = catalogue_text::version(size).unwrap_or(0);
+    match (call, size) {
+        (b"check", _) => check(rt, a),
+        (b"latest", _) => latest(rt, a, b),
+        (b"given", _) => given(rt, a, b, number),
+        (b"lookup", _) => lookup(rt, a, b, size),
+        (_, b"most") => lend_most(rt, call, a, b, res),
+        _ => lend(rt, call, a, b, number, res),
     }
-    if call == b"latest".as_slice() {
-        latest(rt, a, b);
-        return;
-    }
-    if call == b"given".as_slice() {
-        given(rt, a, b, number.value);
-        return;
-    }
-    if call == b"lookup".as_slice() {
-        lookup(rt, a, b, size);
-        return;
-    }
-    if size == b"most".as_slice() {
-        lend_most(rt, call, a, b, res);
-        return;
-    }
-    lend(rt, call, a, b, number.value, res);
 }
 
 // What is printed of a call: its words, and its answer.
 fn case(rt: &HostRuntime, call: &[u8], a: &[u8], b: &[u8], size: &[u8], res: &[u8]) {
     tell(rt, call);
-    tell(rt, b" ");
-    tell(rt, a);
-    tell(rt, b" ");
-    tell(rt, b);
-    tell(rt, b" ");
-    tell(rt, size);
+    for word in [a, b, size] {
+        tell(rt, b" ");
+        tell(rt, word);
+    }
     tell(rt, b": ");
     run(rt, call, a, b, size, res);
+}
+
+// An argument put into the room; empty where it is missing or too long.
+fn word<'a>(rt: &HostRuntime, i: usize, room: &'a mut [u8; 4096]) -> &'a [u8]
+    ensures { length result.now ≤ 4096 }
+{
+    match host::arg(rt, i, room) {
+        Ok(n) => &room[..n],
+        Err(_) => &[],
+    }
 }
 
 // The call whose words are the arguments from `first` on.
@@ -205,22 +191,17 @@ fn arguments(rt: &HostRuntime, first: usize)
     requires { first + 4 < 18446744073709551616 }
 {
     let mut call = [0u8; 4096];
-    let v = host::arg(rt, first, &mut call).unwrap_or(0);
     let mut one = [0u8; 4096];
-    let a = host::arg(rt, first + 1, &mut one).unwrap_or(0);
     let mut two = [0u8; 4096];
-    let b = host::arg(rt, first + 2, &mut two).unwrap_or(0);
     let mut size = [0u8; 4096];
-    let c = host::arg(rt, first + 3, &mut size).unwrap_or(0);
     let mut result = [0u8; 4096];
-    let d = host::arg(rt, first + 4, &mut result).unwrap_or(0);
     case(
         rt,
-        &call[..v],
-        &one[..a],
-        &two[..b],
-        &size[..c],
-        &result[..d],
+        word(rt, first, &mut call),
+        word(rt, first + 1, &mut one),
+        word(rt, first + 2, &mut two),
+        word(rt, first + 3, &mut size),
+        word(rt, first + 4, &mut result),
     );
 }
 

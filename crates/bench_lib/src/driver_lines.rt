@@ -1,113 +1,53 @@
 // The driver's calls.
 use bench_rules::Reply;
-use bench_state::{Bench, Stepped};
-use driver_rules::{Answer, OpenAnswer, SendAnswer};
+use bench_state::{Bench, done, plain, refused, told};
+use driver_rules::Item;
+use hex_text::Text;
+use refusal::Refusal;
 
-fn open_reply(a: OpenAnswer) -> Reply {
-    match a {
-        OpenAnswer::Done => Reply::Ok,
-        OpenAnswer::Refused(why) => bench_state::refused(why),
-    }
+pub fn open(b: &mut Bench, w0: u16, w1: u16, w2: u16) -> Text {
+    let got = driver::open(&mut b.ram, &mut b.dir, b.card, b.driver, w0, w1, w2);
+    b.card = got.card;
+    b.driver = got.driver;
+    done(got.answer)
 }
 
-pub fn open(
-    ram: &mut [u8; 8192],
-    dir: &mut [u16; 1110],
-    text: &mut [u8; 4096],
-    b: Bench,
-    w0: u16,
-    w1: u16,
-    w2: u16,
-) -> Stepped {
-    let c = b.card;
-    let d = b.driver;
-    let got = driver::open(ram, dir, c, d, w0, w1, w2);
-    let after = got.card;
-    let drive = got.driver;
-    let answer = got.answer;
-    let next = bench_state::with_driver(b, after, drive);
-    bench_state::plain(text, next, open_reply(answer))
-}
-
-fn send_reply(a: SendAnswer) -> Reply {
-    match a {
-        SendAnswer::Ticket(n) => Reply::Ticket(n),
-        SendAnswer::Refused(why) => bench_state::refused(why),
-    }
-}
-
-pub fn send(
-    ram: &mut [u8; 8192],
-    dir: &mut [u16; 1110],
-    text: &mut [u8; 4096],
-    b: Bench,
-    packet: &[u8],
-) -> Stepped {
-    let c = b.card;
-    let d = b.driver;
-    let got = driver::send(ram, dir, c, d, packet);
-    let after = got.card;
-    let drive = got.driver;
-    let answer = got.answer;
-    let next = bench_state::with_driver(b, after, drive);
-    bench_state::plain(text, next, send_reply(answer))
+pub fn send(b: &mut Bench, packet: &[u8]) -> Text {
+    let got = driver::send(&mut b.ram, &mut b.dir, b.card, b.driver, packet);
+    b.card = got.card;
+    b.driver = got.driver;
+    plain(told(got.answer, |ticket| Reply::Ticket(ticket)))
 }
 
 // What a service answers; short of budget it tells the accesses used.
-fn service_reply(a: Answer, used: usize) -> Reply {
-    match a {
-        Answer::Reported(ticket, s) => Reply::Report(ticket, s, used),
-        Answer::Status(s) => Reply::Status(s, used),
-        Answer::Frame(n) => frame_reply(n, used),
-        Answer::Idle => Reply::Idle(used),
-        Answer::Refused(why) => refused_reply(refusal::number(why), used),
+fn service_reply(answer: Result<Item, Refusal>, used: usize) -> Reply {
+    match answer {
+        Ok(Item::Reported(ticket, s)) => Reply::Report(ticket, s, used),
+        Ok(Item::Status(s)) => Reply::Status(s, used),
+        Ok(Item::Frame(n)) if n <= 256 => Reply::Look(used),
+        Ok(Item::Frame(_)) => Reply::Frame(used),
+        Ok(Item::Idle) => Reply::Idle(used),
+        Err(Refusal::BudgetShort) => Reply::Short(used),
+        Err(why) => refused(why),
     }
-}
-
-fn frame_reply(n: usize, used: usize) -> Reply {
-    if n <= 256 {
-        return Reply::Look(used);
-    }
-    Reply::Frame(used)
-}
-
-fn refused_reply(number: u8, used: usize) -> Reply {
-    if number == 6 {
-        return Reply::Short(used);
-    }
-    Reply::Refused(number)
 }
 
 // The bytes of a frame handed up: none for another answer.
-fn frame_bytes(a: Answer) -> usize {
-    match a {
-        Answer::Frame(n) => n,
+fn frame_bytes(answer: Result<Item, Refusal>) -> usize {
+    match answer {
+        Ok(Item::Frame(n)) => n,
         _ => 0,
     }
 }
 
-pub fn service(
-    ram: &mut [u8; 8192],
-    dir: &mut [u16; 1110],
-    text: &mut [u8; 4096],
-    b: Bench,
-    budget: u16,
-) -> Stepped {
+pub fn service(b: &mut Bench, budget: u16) -> Text {
     let mut ahead = [0u8; 256];
     let mut frame = [0u8; 1514];
-    let c = b.card;
-    let d = b.driver;
-    let got = driver::service(ram, dir, c, d, budget, &mut ahead, &mut frame);
-    let after = got.card;
-    let drive = got.driver;
-    let answer = got.answer;
-    let used = got.used;
-    let next = bench_state::with_driver(b, after, drive);
-    let n = frame_bytes(answer);
-    let up = driver::hand_up(&ahead, &frame, n);
-    let len = answers::say(text, service_reply(answer, used), up, [0; 7]);
-    Stepped {
-        bench: next,
-        len: len,
-    }
+    let got = driver::service(
+        &mut b.ram, &mut b.dir, b.card, b.driver, budget, &mut ahead, &mut frame,
+    );
+    b.card = got.card;
+    b.driver = got.driver;
+    let up = driver::hand_up(&ahead, &frame, frame_bytes(got.answer));
+    answers::say(service_reply(got.answer, got.used), up, [0; 7])
 }

@@ -1,103 +1,34 @@
 // The host's accesses, and RX Status without one.
 use bench_rules::Reply;
-use bench_state::{Bench, Stepped};
-use card_rules::{Read, RxStatus};
+use bench_state::{Bench, done, plain, told};
+use hex_text::Text;
 
-fn word_reply(a: Read) -> Reply {
-    match a {
-        Read::Value(v) => Reply::Word(v),
-        Read::Refused(why) => bench_state::refused(why),
-    }
+pub fn read_word(b: &mut Bench, o: u16) -> Text {
+    let got = card::read_word(&b.ram, &b.dir, b.card, o);
+    b.card = got.card;
+    plain(told(got.answer, |v| Reply::Word(v)))
 }
 
-fn byte_reply(a: Read) -> Reply {
-    match a {
-        Read::Value(v) => Reply::Byte(v),
-        Read::Refused(why) => bench_state::refused(why),
-    }
+pub fn read_byte(b: &mut Bench, o: u16) -> Text {
+    let got = card::read_byte(&b.ram, &b.dir, b.card, o);
+    b.card = got.card;
+    plain(told(got.answer, |v| Reply::Byte(v)))
 }
 
-fn rx_reply(a: RxStatus) -> Reply {
-    match a {
-        RxStatus::Shows(word, unread) => Reply::RxStatus(word, unread),
-        RxStatus::Refused(why) => bench_state::refused(why),
-    }
+pub fn write_word(b: &mut Bench, o: u16, v: u16) -> Text {
+    let got = card::write_word(&mut b.ram, &mut b.dir, b.card, o, v);
+    b.card = got.card;
+    done(got.answer)
 }
 
-pub fn read_word(
-    ram: &mut [u8; 8192],
-    dir: &mut [u16; 1110],
-    text: &mut [u8; 4096],
-    b: Bench,
-    o: u16,
-) -> Stepped {
-    let c = b.card;
-    let got = card::read_word(ram, dir, c, o);
-    let after = got.card;
-    let answer = got.answer;
-    bench_state::plain(text, bench_state::with_card(b, after), word_reply(answer))
-}
-
-pub fn read_byte(
-    ram: &mut [u8; 8192],
-    dir: &mut [u16; 1110],
-    text: &mut [u8; 4096],
-    b: Bench,
-    o: u16,
-) -> Stepped {
-    let c = b.card;
-    let got = card::read_byte(ram, dir, c, o);
-    let after = got.card;
-    let answer = got.answer;
-    bench_state::plain(text, bench_state::with_card(b, after), byte_reply(answer))
-}
-
-pub fn write_word(
-    ram: &mut [u8; 8192],
-    dir: &mut [u16; 1110],
-    text: &mut [u8; 4096],
-    b: Bench,
-    o: u16,
-    v: u16,
-) -> Stepped {
-    let c = b.card;
-    let got = card::write_word(ram, dir, c, o, v);
-    let after = got.card;
-    let answer = got.answer;
-    bench_state::plain(
-        text,
-        bench_state::with_card(b, after),
-        bench_state::done_reply(answer),
-    )
-}
-
-pub fn write_byte(
-    ram: &mut [u8; 8192],
-    dir: &mut [u16; 1110],
-    text: &mut [u8; 4096],
-    b: Bench,
-    o: u16,
-    v: u16,
-) -> Stepped {
-    let c = b.card;
-    let got = card::write_byte(ram, dir, c, o, (v % 256) as u8);
-    let after = got.card;
-    let answer = got.answer;
-    bench_state::plain(
-        text,
-        bench_state::with_card(b, after),
-        bench_state::done_reply(answer),
-    )
+pub fn write_byte(b: &mut Bench, o: u16, v: u16) -> Text {
+    let got = card::write_byte(&mut b.ram, &mut b.dir, b.card, o, (v % 256) as u8);
+    b.card = got.card;
+    done(got.answer)
 }
 
 // RX Status and the unread bytes: the card stays as it is.
-pub fn rx_status(
-    ram: &mut [u8; 8192],
-    dir: &mut [u16; 1110],
-    text: &mut [u8; 4096],
-    b: Bench,
-) -> Stepped {
-    let c = b.card;
-    let answer = card::rx_status(ram, dir, c);
-    bench_state::plain(text, b, rx_reply(answer))
+pub fn rx_status(b: &Bench) -> Text {
+    let answer = card::rx_status(&b.ram, &b.dir, b.card);
+    plain(told(answer, |s| Reply::RxStatus(s.word, s.unread)))
 }

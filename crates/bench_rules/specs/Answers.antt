@@ -1,5 +1,5 @@
 -- The answers of the bench, each a line of characters with its newline. Assumes nothing.
-use Rattle.std.specs.Prelude.{ℕ, suc, ◌/◌, ◌%◌, ◌≤◌, ◌≡◌, cond, List, [], ◌∷◌, ◌++◌, length, take, ℤ, pos, negsuc, ltb}
+use Rattle.std.specs.Prelude.{ℕ, suc, ◌/◌, ◌%◌, cond, List, [], ◌∷◌, ◌++◌, take, ℤ, pos, negsuc, ltb}
 use Rattle.bench_rules.specs.Text.{byte_text, word_text, bytes_text, decimal_text}
 use Rattle.bench_rules.specs.declared.Reply.{Reply}
 use Rattle.bench_rules.specs.declared.Reply.TheVariants as reply
@@ -121,9 +121,3 @@ line_of (reply.Look used) bytes found = frame_line look_label (shortened bytes) 
 line_of (reply.Frame used) bytes found = frame_line frame_label (shortened bytes) used
 line_of (reply.Idle used) bytes found = labelled idle_label (used % 100000)
 line_of (reply.Short used) bytes found = labelled short_label (used % 100000)
-
--- The first r characters of a text are the line, and there are as many. The last part follows from the second: a caller that takes them wants it.
-pub record Says (line : List ℕ) (r : ℕ) (text : List ℕ) : Type 0 where
-  pub says : take r text ≡ line
-  pub within : r ≤ length text
-  pub whole : r ≡ length (take r text)

@@ -81,9 +81,3 @@ places_text (suc k) n = cond (ltb n 10) (digit_of n ∷ []) (places_text k (n / 
 -- A number below 100,000 in decimal, with no zero in front.
 abbrev pub decimal_text : ℕ → List ℕ
 decimal_text n = places_text 5 n
-
--- Characters are put into a text from a place on: what stood before it stays, r is the place behind them, and the text is as long as it was.
-pub record Puts (chars : List ℕ) (at : ℕ) (text text' : List ℕ) (r : ℕ) : Type 0 where
-  pub front : take r text' ≡ take at text ++ chars
-  pub next : r ≡ at + length chars
-  pub long : length text' ≡ length text

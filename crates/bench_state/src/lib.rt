@@ -1,30 +1,48 @@
 #![tactic(auto)]
-// The bench's state: what a script works on, and how a line leaves it.
+// The bench's state: what a script works on, and how a line is answered.
 use bench_rules::Reply;
-use card_rules::{Card, Done};
+use card_rules::Card;
 use driver_rules::Driver;
+use hex_text::Text;
 use port_rules::IdState;
 use refusal::Refusal;
 
 mod cards; // cards.rt: a new card, and another on the ID port
-pub mod lines; // lines.rt: parts of a line
+pub mod lines; // lines.rt: parts of a line, and a line as far as it was read
 
 pub use cards::{join, power};
 
-// The bench's own card, its driver, and the other cards on the ID port: the first `others` of `joined`.
-#[derive(Clone, Copy)]
+// The bench's own card with its memory, its driver, and the other cards on the ID port: the first `others` of `joined`.
+#[derive(Drop)]
 pub struct Bench {
+    pub ram: [u8; 8192],
+    pub dir: [u16; 1110],
     pub card: Card,
     pub driver: Driver,
     pub joined: [IdState; 8],
     pub others: usize,
 }
 
-// What a line leaves: the state, and the length of its answer in the text.
-#[derive(Clone, Copy)]
-pub struct Stepped {
-    pub bench: Bench,
-    pub len: usize,
+impl Bench {
+    // A power-on card of these words, an unopened driver, no other cards.
+    pub fn new(words: [u16; 64]) -> Bench {
+        Bench {
+            ram: [0; 8192],
+            dir: [0; 1110],
+            card: card::power_on(words),
+            driver: closed(),
+            joined: [idport::fresh(words); 8],
+            others: 0,
+        }
+    }
+
+    // The same again, with other words; the memory is left as it is.
+    pub fn restart(&mut self, words: [u16; 64]) {
+        self.card = card::power_on(words);
+        self.driver = closed();
+        self.joined = [idport::fresh(words); 8];
+        self.others = 0;
+    }
 }
 
 fn closed() -> Driver {
@@ -36,50 +54,26 @@ fn closed() -> Driver {
     }
 }
 
-// A power-on card of these words, an unopened driver, no other cards.
-pub fn powered(words: [u16; 64]) -> Bench {
-    let none = idport::fresh(words);
-    let joined = [none; 8];
-    let own = card::power_on(words);
-    Bench {
-        card: own,
-        driver: closed(),
-        joined: joined,
-        others: 0,
-    }
-}
-
 // A reply without bytes.
-pub fn plain(text: &mut [u8; 4096], b: Bench, reply: Reply) -> Stepped {
-    let none = [0u8; 1];
-    let len = answers::say(text, reply, &none, [0; 7]);
-    Stepped { bench: b, len: len }
-}
-
-// The same with another card.
-pub fn with_card(b: Bench, card: Card) -> Bench {
-    let drive = b.driver;
-    with_driver(b, card, drive)
-}
-
-// The same with another card and what its driver has become.
-pub fn with_driver(b: Bench, card: Card, driver: Driver) -> Bench {
-    let joined = b.joined;
-    Bench {
-        card: card,
-        driver: driver,
-        joined: joined,
-        others: b.others,
-    }
+pub fn plain(reply: Reply) -> Text {
+    answers::say(reply, &[], [0; 7])
 }
 
 pub fn refused(why: Refusal) -> Reply {
     Reply::Refused(refusal::number(why))
 }
 
-pub fn done_reply(a: Done) -> Reply {
-    match a {
-        Done::Done => Reply::Ok,
-        Done::Refused(why) => refused(why),
+// The reply to a call: what its answer tells, or that it was refused.
+pub fn told<T, F: FnOnce(T) -> Reply>(answer: Result<T, Refusal>, tells: F) -> Reply
+    requires { F.IsAlwaysCallable tells }
+{
+    match answer {
+        Ok(value) => tells(value),
+        Err(why) => refused(why),
     }
+}
+
+// A call that tells nothing.
+pub fn done(answer: Result<(), Refusal>) -> Text {
+    plain(told(answer, |_| Reply::Ok))
 }

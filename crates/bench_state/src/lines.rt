@@ -1,52 +1,65 @@
-// Parts of a line: its front, a byte of it, how it grows, how long it is.
-ghost use Rattle.std.specs.Prelude.{◌≡◌, take};
+// Parts of a line, and a line as far as it was read.
+ghost use Rattle.std.specs.Prelude.{◌≡◌, ◌≤◌, take, IfSome};
+ghost use Rattle.std.proofs.Props.{props};
 
 // The first n characters, or all.
 pub fn front(s: &[u8], n: usize) -> &[u8]
     ensures { result.now ≡ take n s.now }
 {
-    if n < s.len() {
-        return &s[..n];
-    }
-    s
+    &s[..n.min(s.len())]
 }
 
 // A byte, 0 past the end.
 pub fn byte_at(s: &[u8], i: usize) -> u8 {
-    if i < s.len() {
-        return s[i];
-    }
-    0
+    s.get(i).copied().unwrap_or(0)
 }
 
-// Characters of a line, behind those that came before. There is room for a line of 8,192 and a carriage return.
-pub fn append(line: &mut [u8], count: usize, s: &[u8]) -> usize {
-    let mut n = count;
-    let mut i: usize = 0;
-    while i < s.len() {
-        if n >= line.len() {
-            return 8194;
-        }
-        line[n] = s[i];
-        n += 1;
-        i += 1;
-    }
-    n
+// A line as far as it was read: there is room for 8,192 characters and a carriage return. Without a length it is too long.
+#[derive(Drop)]
+pub struct Gathered {
+    room: [u8; 8193],
+    len: Option<usize>,
+    ghost inside: { IfSome len (λ n. n ≤ 8193) } by { Prim.hlevel props },
 }
 
-// The length of a whole line without a carriage return at its end; 8,193 if it is too long.
-pub fn length_of(line: &[u8], count: usize) -> usize {
-    if count > 8193 {
-        return 8193;
-    }
-    if count == 0 {
-        return 0;
-    }
-    let last = count - 1;
-    if last < line.len() {
-        if line[last] == b'\r' {
-            return last;
+impl Gathered {
+    // Nothing read yet.
+    pub fn new() -> Gathered {
+        Gathered {
+            room: [0; 8193],
+            len: Some(0),
         }
     }
-    count
+
+    pub fn is_empty(&self) -> bool {
+        self.len == Some(0)
+    }
+
+    // Characters, behind those that came before.
+    pub fn push(&mut self, s: &[u8]) {
+        let Some(n) = self.len else {
+            return;
+        };
+        if s.len() > 8193 - n {
+            self.len = None;
+            return;
+        }
+        self.room[n..n + s.len()].copy_from_slice(s);
+        self.len = Some(n + s.len());
+    }
+
+    // The whole line without a carriage return at its end; none if it is longer than 8,192.
+    pub fn whole(&self) -> Option<&[u8]> {
+        let all = &self.room[..self.len?];
+        let line = all.strip_suffix(b"\r").unwrap_or(all);
+        if line.len() > 8192 {
+            return None;
+        }
+        Some(line)
+    }
+
+    // The next line begins.
+    pub fn clear(&mut self) {
+        self.len = Some(0);
+    }
 }

@@ -4,5 +4,5 @@ mod printing;
 mod reading;
 mod round_trip; // round_trip.rt: what `hex` prints it reads back
 
-pub use printing::{digit, put, put_byte, put_bytes, put_decimal, put_word};
+pub use printing::{Text, digit};
 pub use reading::{number, pairs};

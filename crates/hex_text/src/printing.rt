@@ -1,6 +1,8 @@
-// Numbers to text. Each call puts its characters into a text from a place on and answers the place behind them.
-ghost use Rattle.std.specs.Prelude.{◌≡◌, ◌+◌, ◌*◌, ◌≤◌, ◌<◌, length};
-ghost use Rattle.bench_rules.specs.Text.{digit_of, byte_text, word_text, bytes_text, places_text, decimal_text, Puts};
+// Numbers to text.
+ghost use Rattle.std.specs.Prelude.{◌≡◌, ◌+◌, ◌*◌, ◌≤◌, ◌<◌, ◌++◌, [], length, take, List, ℕ};
+ghost use Rattle.bench_rules.specs.Text.{digit_of, byte_text, word_text, bytes_text, places_text, decimal_text};
+
+use std::marker::Model;
 
 // A hex digit, upper case.
 #[tactic(auto, unfolding(bench_rules::specs::Text::digit_of))]
@@ -14,68 +16,100 @@ pub fn digit(d: u16) -> u8
     b'A' + (d as u8 - 10)
 }
 
-// Characters as they are.
-pub fn put(text: &mut [u8], at: usize, s: &[u8]) -> usize
-    requires { at + length s.now ≤ length text.old }
-    ensures { Puts s.now at text.old text.new result }
-{
-    let next = at + s.len();
-    text[at..next].copy_from_slice(s);
-    next
+// A text of up to 4,096 characters. A contract sees the characters that were put, in their order.
+#[derive(Drop)]
+pub struct Text {
+    room: [u8; 4096],
+    len: usize,
 }
 
-// A byte as two digits.
-pub fn put_byte(text: &mut [u8], at: usize, b: u8) -> usize
-    requires { at + 2 ≤ length text.old }
-    ensures { Puts (byte_text b) at text.old text.new result }
-{
-    text[at] = digit(u16::from(b / 16));
-    text[at + 1] = digit(u16::from(b % 16));
-    at + 2
+impl Model for Text {
+    ghost Value = { List ℕ };
+
+    ghost view = { λ t. take t.len t.room };
+
+    ghost invariant = { λ t. t.len ≤ 4096 };
 }
 
-// A word as four digits.
-pub fn put_word(text: &mut [u8], at: usize, v: u16) -> usize
-    requires { at + 4 ≤ length text.old }
-    ensures { Puts (word_text v) at text.old text.new result }
-{
-    let next = put_byte(text, at, (v / 256) as u8);
-    put_byte(text, next, (v % 256) as u8)
-}
-
-// Bytes, two digits each.
-pub fn put_bytes(text: &mut [u8], at: usize, s: &[u8]) -> usize
-    requires { at + 2 * length s.now ≤ length text.old }
-    ensures { Puts (bytes_text s.now) at text.old text.new result × (result ≡ at + 2 * length s.now) }
-{
-    let mut place = at;
-    for b in s {
-        place = put_byte(text, place, *b);
+impl Text {
+    // Nothing put yet.
+    pub fn new() -> Text
+        ensures { result ≡ [] }
+    {
+        Text {
+            room: [0; 4096],
+            len: 0,
+        }
     }
-    place
-}
 
-// A number below 100,000 in decimal, with no zero in front.
-pub fn put_decimal(text: &mut [u8], at: usize, n: u32) -> usize
-    requires { at + 5 ≤ length text.old }
-    ensures { Puts (decimal_text n) at text.old text.new result × (result ≤ at + 5) }
-{
-    put_places(text, at, n, 5)
-}
+    // The characters.
+    pub fn chars(&self) -> &[u8]
+        ensures { result.now ≡ self.now }
+    {
+        &self.room[..self.len]
+    }
 
-// At most k decimal digits of a number.
-fn put_places(text: &mut [u8], at: usize, n: u32, k: usize) -> usize
-    requires { at + k ≤ length text.old }
-    ensures { Puts (places_text k n) at text.old text.new result × (result ≤ at + k) }
-{
-    if k == 0 {
-        return at;
+    // Characters as they are.
+    pub fn put(&mut self, s: &[u8])
+        requires { length self.old + length s.now ≤ 4096 }
+        ensures { self.new ≡ self.old ++ s.now }
+    {
+        let next = self.len + s.len();
+        self.room[self.len..next].copy_from_slice(s);
+        self.len = next;
     }
-    if n < 10 {
-        text[at] = digit(n as u16);
-        return at + 1;
+
+    // A byte as two digits.
+    pub fn put_byte(&mut self, b: u8)
+        requires { length self.old + 2 ≤ 4096 }
+        ensures { self.new ≡ self.old ++ byte_text b }
+    {
+        self.put(&[digit(u16::from(b / 16)), digit(u16::from(b % 16))]);
     }
-    let next = put_places(text, at, n / 10, k - 1);
-    text[next] = digit((n % 10) as u16);
-    next + 1
+
+    // A word as four digits.
+    pub fn put_word(&mut self, v: u16)
+        requires { length self.old + 4 ≤ 4096 }
+        ensures { self.new ≡ self.old ++ word_text v }
+    {
+        self.put_byte((v / 256) as u8);
+        self.put_byte((v % 256) as u8);
+    }
+
+    // Bytes, two digits each.
+    pub fn put_bytes(&mut self, s: &[u8])
+        requires { length self.old + 2 * length s.now ≤ 4096 }
+        ensures text { self.new ≡ self.old ++ bytes_text s.now }
+        ensures long { length self.new ≡ length self.old + 2 * length s.now }
+    {
+        for b in s {
+            self.put_byte(*b);
+        }
+    }
+
+    // A number below 100,000 in decimal, with no zero in front.
+    pub fn put_decimal(&mut self, n: u32)
+        requires { length self.old + 5 ≤ 4096 }
+        ensures text { self.new ≡ self.old ++ decimal_text n }
+        ensures long { length self.new ≤ length self.old + 5 }
+    {
+        self.put_places(n, 5);
+    }
+
+    // At most k decimal digits of a number.
+    fn put_places(&mut self, n: u32, k: usize)
+        requires { length self.old + k ≤ 4096 }
+        ensures text { self.new ≡ self.old ++ places_text k n }
+        ensures long { length self.new ≤ length self.old + k }
+    {
+        if k == 0 {
+            return;
+        }
+        if n < 10 {
+            self.put(&[digit(n as u16)]);
+            return;
+        }
+        self.put_places(n / 10, k - 1);
+        self.put(&[digit((n % 10) as u16)]);
+    }
 }

@@ -1,11 +1,13 @@
--- `forms::found` meets its contract: its parts are put one behind the other. Assumes nothing.
-use Rattle.std.proofs.Common.{◌≡◌, arith}
-use Rattle.std.proofs.lemmas.Bool.Decides.{nat_tests}
-use Rattle.bench_rules.specs.Answers.{seven_at_most}
-use Rattle.bench_rules.proofs.Placed as law
+-- `forms::found` meets its contract: the addresses passed stand behind what was there. Assumes nothing.
+use Rattle.std.proofs.Common.{refl, sym, arith, append-nil, append_assoc}
+use Rattle.bench_rules.specs.Answers.{addresses_text}
+use Rattle.bench_rules.proofs.Spoken.{addresses_more}
 use Rattle.answers.proofs.forms.found.Goals as goal
 
-pub returns : goal.returns
-returns c =
-    let n : seven_at_most c.args.m ≡ c.min-n.result = grind (arith, nat_tests, c.min-n.ensures) in
-    rw n (law.on (law.on (law.on (law.on (law.on c.put-a.ensures c.put_decimal-b.ensures.0) c.put-c.ensures) c.put_decimal-d.ensures.0) c.addresses-e.ensures.0) c.put.ensures)
+pub loop-i-init : goal.loop-i-init
+unfolding addresses_text
+loop-i-init c = (sym (append-nil c.put_decimal-2.new.self), omega arith)
+
+pub loop-i-preserved : goal.loop-i-preserved
+loop-i-preserved c =
+    (rw (c.put_address.ensures.text, c.loop-i.invariant.0, addresses_more c.args.found c.loop-i.i (omega arith), append_assoc) refl, omega arith)

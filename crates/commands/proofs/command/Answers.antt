@@ -3,15 +3,9 @@ use borrow.Author.Tests.{eq-eqb, ne_eqb}
 use Rattle.card_rules.specs.Command.{command}
 use Rattle.commands.proofs.command.Goals as goal
 
-pub discard-requires : goal.discard-requires
-discard-requires c = c.requires
-
 pub returns-then-n-eq-RX_DISCARD : goal.returns-then-n-eq-RX_DISCARD
 unfolding command
 returns-then-n-eq-RX_DISCARD c = rw (eq-eqb _ _ c.if-n-eq-RX_DISCARD.true) c.discard.ensures
-
-pub act-requires : goal.act-requires
-act-requires c = c.requires.held.statuses
 
 pub returns : goal.returns
 unfolding command

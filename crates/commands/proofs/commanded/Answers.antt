@@ -8,9 +8,6 @@ pub returns-then-n-c : goal.returns-then-n-c
 unfolding commanded view
 returns-then-n-c c = rw c.if-n-c.true (is_same _ _ _ c.requires.held)
 
-pub command-requires : goal.command-requires
-command-requires c = c.requires
-
 pub returns : goal.returns
 unfolding commanded view
 returns c = rw c.if-n-c.false c.command.ensures

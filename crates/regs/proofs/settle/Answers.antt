@@ -2,14 +2,5 @@
 use Rattle.card_rules.proofs.Quiet.{stands-quiet}
 use Rattle.regs.proofs.settle.Goals as goal
 
-pub is_quiet-requires : goal.is_quiet-requires
-is_quiet-requires c = c.requires
-
 pub returns-then-is_quiet : goal.returns-then-is_quiet
 returns-then-is_quiet c = stands-quiet c.args.c _ _ c.requires.0 c.requires.1 (c.is_quiet.ensures c.if-is_quiet.true)
-
-pub settle_all-requires : goal.settle_all-requires
-settle_all-requires c = c.requires
-
-pub returns : goal.returns
-returns c = c.settle_all.ensures

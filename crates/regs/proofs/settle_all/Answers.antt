@@ -2,12 +2,6 @@
 use Rattle.card_rules.proofs.Ends.{settles}
 use Rattle.regs.proofs.settle_all.Goals as goal
 
-pub settle_sides-settled-requires : goal.settle_sides-settled-requires
-settle_sides-settled-requires c = c.requires
-
-pub flags_of-requires : goal.flags_of-requires
-flags_of-requires c = (c.settle_sides-settled.ensures.held, c.settle_sides-settled.ensures.rx_sound_is)
-
 pub returns : goal.returns
 returns c =
     settles _ _ _ _ _ _ c.requires.1 c.settle_sides-settled.ensures c.flags_of.ensures c.interrupts-rising.ensures

@@ -1,17 +1,12 @@
 -- `regs::settle_sides` meets its contract, by the law `sides_settle`. Assumes nothing.
 use mathlib.Core.Path.{subst⁻¹}
 use Prim.Native.Nat.{ℕ, ◌%◌}
-use Rattle.receive_rules.specs.View as rx
 use Rattle.transmit_rules.specs.View as tx
 use Rattle.card_rules.specs.View.{view}
 use Rattle.card_rules.proofs.Ranges.{tx-small}
 use Rattle.card_rules.proofs.Sides.{tx-kept}
 use Rattle.card_rules.proofs.Ends.{sides_settle}
 use Rattle.regs.proofs.settle_sides.Goals as goal
-
-pub settle_early-requires : goal.settle_early-requires
-settle_early-requires c =
-    subst⁻¹ (λ (n : ℕ). rx.Packed n c.args.c.receive c.args.ram.now c.args.dir.now) c.rx_size.ensures.0 c.requires.0.frames
 
 pub settle-requires : goal.settle-requires
 unfolding view

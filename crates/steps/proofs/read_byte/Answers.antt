@@ -1,6 +1,5 @@
 -- `steps::read_byte` meets its contract: a byte of the word at the even offset. Assumes nothing.
 use borrow.Author.Tests.{not-true, not-false}
-use native.Mathlib.Omega.{arith}
 use Rattle.card_rules.specs.Access.{ReadByte}
 use Rattle.card_rules.proofs.StepEnds.{gives-ones, gives_low, gives_high}
 use Rattle.steps.proofs.read_byte.Goals as goal
@@ -8,16 +7,9 @@ use Rattle.steps.proofs.read_byte.Goals as goal
 pub returns-then-not-c : goal.returns-then-not-c
 returns-then-not-c c = gives-ones c.args.c _ _ c.requires.0 (ReadByte c.args.o) (not-true _ c.if-not-c.true)
 
-pub word_at-requires : goal.word_at-requires
-word_at-requires c = let s = c.requires in (s.0, c.if-o-eq0.true, s.1)
-
 pub returns-then-o-eq0 : goal.returns-then-o-eq0
 returns-then-o-eq0 c =
     gives_low c.args.c _ _ c.requires.0 c.args.o _ (not-false _ c.if-not-c.false) c.if-o-eq0.true c.word_at.ensures
-
-pub word_at-requires-2 : goal.word_at-requires-2
-word_at-requires-2 c =
-    (c.requires.0, omega (arith, c.if-o-eq0.false), (λ e. omega (arith, c.if-o-eq0.false, c.requires.1 e)))
 
 pub returns : goal.returns
 returns c =

@@ -3,14 +3,11 @@ use borrow.Author.Tests.{not-true, not-false}
 use Rattle.card_rules.specs.View.{view}
 use Rattle.card_rules.specs.Access.{ReadWord}
 use Rattle.card_rules.proofs.StepKeeps.{taken-keeps}
-use Rattle.card_rules.proofs.StepEnds.{unsettled, settled_as, gives-ones, gives-word, gives_data, beside_data}
+use Rattle.card_rules.proofs.StepEnds.{unsettled, settled_as, gives-ones, gives-word, gives_data}
 use Rattle.steps.proofs.read_word.Goals as goal
 
 pub returns-then-not-c : goal.returns-then-not-c
 returns-then-not-c c = gives-ones c.args.c _ _ c.requires.0 (ReadWord c.args.o) (not-true _ c.if-not-c.true)
-
-pub take_word-got-requires : goal.take_word-got-requires
-take_word-got-requires c = c.requires.0
 
 pub settle-requires : goal.settle-requires
 settle-requires c =
@@ -20,9 +17,6 @@ pub returns-then-o-c : goal.returns-then-o-c
 returns-then-o-c c =
     gives_data c.args.c c.args.ram.now c.args.dir.now c.requires.0 c.args.o _ _ (not-false _ c.if-not-c.false) c.if-o-c.true c.take_word-got.ensures.value_value
     (settled_as _ _ _ _ _ c.take_word-got.ensures.is c.settle.ensures)
-
-pub word_at-requires : goal.word_at-requires
-word_at-requires c = let s = c.requires in (s.0, s.1, beside_data _ _ c.if-o-c.false)
 
 pub returns : goal.returns
 returns c =

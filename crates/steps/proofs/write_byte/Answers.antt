@@ -9,9 +9,6 @@ use Rattle.steps.proofs.write_byte.Goals as goal
 pub returns-then-not-c : goal.returns-then-not-c
 returns-then-not-c c = stands-ones c.args.c _ _ c.requires (WriteByte c.args.o c.args.v) (not-true _ c.if-not-c.true)
 
-pub write_byte-with_byte-requires : goal.write_byte-with_byte-requires
-write_byte-with_byte-requires c = c.requires
-
 pub settle-requires : goal.settle-requires
 settle-requires c =
     unsettled _ _ _ _ c.write_byte-with_byte.ensures (byte-keeps (view c.args.c c.args.ram.now c.args.dir.now) c.requires.calm _ _)

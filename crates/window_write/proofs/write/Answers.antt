@@ -6,12 +6,6 @@ use Rattle.card_rules.specs.Write.{write}
 use Rattle.card_rules.proofs.Windows.{selected}
 use Rattle.window_write.proofs.write.Goals as goal
 
-pub write_1-requires : goal.write_1-requires
-write_1-requires c = c.requires.0
-
-pub write_2-requires : goal.write_2-requires
-write_2-requires c = c.requires.1
-
 pub returns-in-0 : goal.returns-in-0
 unfolding view
 returns-in-0 c = selected _ _ _ _ _ _ _ 0 c.in-0.is (c.write_0.ensures _ _ c.requires.0.held)

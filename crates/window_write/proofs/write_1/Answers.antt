@@ -5,15 +5,9 @@ use Rattle.card_rules.specs.Write.{write1}
 use Rattle.card_rules.proofs.Tests.{one_test}
 use Rattle.window_write.proofs.write_1.Goals as goal
 
-pub write_data-requires : goal.write_data-requires
-write_data-requires c = c.requires
-
 pub returns-then-o-lt4 : goal.returns-then-o-lt4
 unfolding write1
 returns-then-o-lt4 c = rw (lt-ltb _ _ c.if-o-lt4.true) c.write_data.ensures
-
-pub pop_status-requires : goal.pop_status-requires
-pop_status-requires c = c.requires.held.statuses
 
 pub returns-then-o-covers_high : goal.returns-then-o-covers_high
 unfolding write1

@@ -3,7 +3,6 @@ use borrow.Author.Tests.{le-leb, lt-leb, eqb-true, eqb-false}
 use mathlib.Core.Path.{◌≡◌}
 use mathlib.Core.Bool.{Bool, false}
 use mathlib.Core.List.{[]}
-use native.Mathlib.Omega.{arith}
 use Rattle.bits.proofs.Tests.{by_test, neither}
 use Rattle.receive_rules.specs.View.{frames_of, rx_of}
 use Rattle.receive_rules.specs.Frame.{Rx}
@@ -26,9 +25,6 @@ returns-then-r c =
     let f : Bool = s.r.receiver.failed in
     let none-left : f ≡ false → frames_of s.size s.r.frames s.ram.now s.dir.now ≡ [] = λ n. none s.size s.r.frames s.ram.now s.dir.now (eqb-true s.r.frames 0 (rw n at c.if-r.true)) in
     step_same s.size s.r s.ram.now s.dir.now _ c.requires.packed (by_test f (λ y. rw y) (λ n. rw (n, none-left n)))
-
-pub drop_first-requires : goal.drop_first-requires
-drop_first-requires c = (rw c.area.ensures c.requires.packed, omega (arith, eqb-false c.args.r.frames 0 (neither c.args.r.receiver.failed _ c.if-r.false).1))
 
 pub returns-then-w-ge-COMING : goal.returns-then-w-ge-COMING
 unfolding without_oldest

@@ -37,9 +37,6 @@ module _ (u : ℤ) (p : ℕ) (f : SFits w16 u) (s : mag u < 2048) (l : p < 4) wh
 few : (size : ℕ) (r : Receive) (ram dir : List ℕ) → Sound size r ram dir → (u : ℤ) → u ≡ unread_in r.receiver.read (frames_of size r.frames ram dir) → mag u < 2048
 few size r ram dir S u e = subst (λ (z : ℤ). mag z < 2048) (sym e) (between-small _ (count-between size (rx_of size r ram dir) S.calm))
 
-pub pad-requires : goal.pad-requires
-pad-requires c = c.requires.packed
-
 pub overflow_add-result : goal.overflow_add-result
 overflow_add-result c =
     let s = c.args in

@@ -2,7 +2,6 @@
 use mathlib.Core.Path.{◌≡◌, sym, ap, ◌∙◌, subst}
 use Prim.Native.Nat.{ℕ, ◌+◌, ◌-◌, ◌%◌, ◌<◌}
 use native.Mathlib.Nat.{zero-add}
-use native.Mathlib.Omega.{arith}
 use lib.IntN.{ℤ}
 use lib.ListN.{get_or}
 use lib.Signed.{mag}
@@ -30,18 +29,12 @@ encoded-told-requires c =
     let s = c.args in
     subst (λ (z : ℤ). mag z < 2048) (sym (back c.unread.result c.unread.type_inv ∙ c.unread.ensures)) (between-small _ (count-between s.size (rx_of s.size s.r s.ram.now s.dir.now) c.requires.calm))
 
-pub overflow_add-result : goal.overflow_add-result
-overflow_add-result c = omega (arith, c.encoded-told.ensures.1)
-
 pub returns-then-w-ge-COMING : goal.returns-then-w-ge-COMING
 returns-then-w-ge-COMING c =
     let h = c.if-r-eq0.false in
     let s = c.args in
     rw (status-some s.size s.r.frames s.ram.now s.dir.now c.requires.packed h s.r.receiver.read, marks-coming _ c.if-w-ge-COMING.true)
     (ap (λ (k : ℕ). 32768 + k) (shown s.size s.r s.ram.now s.dir.now c.requires h _ _ c.encoded-told.ensures.0 (back c.unread.result c.unread.type_inv ∙ c.unread.ensures)))
-
-pub overflow_add-result-then-w-ge16384 : goal.overflow_add-result-then-w-ge16384
-overflow_add-result-then-w-ge16384 c = omega (arith, c.encoded-told.ensures.1, c.if-w-ge-COMING.false)
 
 pub returns-then-w-ge16384 : goal.returns-then-w-ge16384
 returns-then-w-ge16384 c =

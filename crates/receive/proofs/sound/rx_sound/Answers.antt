@@ -22,17 +22,6 @@ returns-then-size-used c =
     let k : leb used s.size ≡ false = lt-leb used s.size (omega (arith, c.used.ensures)) in
     rw (le-leb _ _ c.if-count-gt-SLOTS.false, k)
 
-pub in_order-ordered-requires : goal.in_order-ordered-requires
-in_order-ordered-requires c = (record { in_ram = omega arith; in_dir = omega arith; few = c.if-count-gt-SLOTS.false; small = omega arith; room = omega arith })
-
-pub readable_bytes-have-requires : goal.readable_bytes-have-requires
-readable_bytes-have-requires c =
-    (record { in_ram = omega arith; in_dir = omega arith; few = c.if-count-gt-SLOTS.false; small = omega arith; room = omega arith })
-
-pub early_settled-settled-requires : goal.early_settled-settled-requires
-early_settled-settled-requires c =
-    (record { in_ram = omega arith; in_dir = omega arith; few = c.if-count-gt-SLOTS.false; small = omega arith; room = omega arith })
-
 pub returns : goal.returns
 unfolding sound_side
 returns c =

@@ -16,17 +16,6 @@ returns-else-stored c =
 pub overflow_sub-last : goal.overflow_sub-last
 overflow_sub-last c = omega (arith, (stored_some c.args.size c.args.r c.args.ram.now c.args.dir.now c.requires c.if-stored.true))
 
-pub offset_bounds-dir-r : goal.offset_bounds-dir-r
-offset_bounds-dir-r c = omega arith
-
-pub bounds-dir-r : goal.bounds-dir-r
-bounds-dir-r c =
-    let p = c.requires.packed in
-    omega (arith, (stored_some c.args.size c.args.r c.args.ram.now c.args.dir.now c.requires c.if-stored.true), p.in_dir, p.few)
-
-pub end_head-requires : goal.end_head-requires
-end_head-requires c = tt
-
 pub set_head-requires : goal.set_head-requires
 set_head-requires c =
     (rw c.area.ensures c.requires.packed, (stored_some c.args.size c.args.r c.args.ram.now c.args.dir.now c.requires c.if-stored.true), c.end_head.ensures.1)

@@ -1,6 +1,5 @@
 -- `effects::write_byte` meets its contract: the tests pick the byte's register. Assumes nothing.
 use borrow.Author.Tests.{eq-eqb, ne_eqb}
-use native.Mathlib.Omega.{arith}
 use Rattle.card_rules.specs.View.{view}
 use Rattle.card_rules.proofs.Groups.{is_lines}
 use Rattle.card_rules.specs.Write.{write_byte}
@@ -12,25 +11,16 @@ unfolding write_byte view
 returns-then-o-eq14 c =
     rw (eq-eqb _ _ c.if-o-eq14.true, c.hold.ensures) (is_lines c.args.c _ _ c.requires.held _)
 
-pub execute-requires : goal.execute-requires
-execute-requires c = c.requires
-
 pub returns-then-o-eq15 : goal.returns-then-o-eq15
 unfolding write_byte
 returns-then-o-eq15 c =
     rw (ne_eqb _ _ c.if-o-eq14.false, eq-eqb _ _ c.if-o-eq15.true) c.execute.ensures
-
-pub write-requires : goal.write-requires
-write-requires c = (c.requires, c.if-o-eq0.true)
 
 pub returns-then-o-eq0 : goal.returns-then-o-eq0
 unfolding write_byte
 returns-then-o-eq0 c =
     rw (ne_eqb _ _ c.if-o-eq14.false, ne_eqb _ _ c.if-o-eq15.false, eq-eqb _ _ c.if-o-eq0.true)
     (byte_as _ _ _ _ _ _ _ _ c.wide-w.ensures.0 c.write.ensures)
-
-pub write-requires-2 : goal.write-requires-2
-write-requires-2 c = (c.requires, omega (arith, c.if-o-eq0.false))
 
 pub returns : goal.returns
 unfolding write_byte

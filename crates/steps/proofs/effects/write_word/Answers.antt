@@ -3,15 +3,9 @@ use borrow.Author.Tests.{eq-eqb, ne_eqb}
 use Rattle.card_rules.specs.Write.{write_word}
 use Rattle.steps.proofs.effects.write_word.Goals as goal
 
-pub commanded-requires : goal.commanded-requires
-commanded-requires c = c.requires.0
-
 pub returns-then-o-eq14 : goal.returns-then-o-eq14
 unfolding write_word
 returns-then-o-eq14 c = rw (eq-eqb _ _ c.if-o-eq14.true) c.commanded.ensures
-
-pub write-requires : goal.write-requires
-write-requires c = c.requires
 
 pub returns : goal.returns
 unfolding write_word

@@ -4,15 +4,6 @@ use Rattle.card_rules.specs.View.{view}
 use Rattle.card_rules.specs.Read.{window1}
 use Rattle.window_read.proofs.read_1.Goals as goal
 
-pub rx_status-requires : goal.rx_status-requires
-rx_status-requires c = c.requires.0
-
-pub tx_status-requires : goal.tx_status-requires
-tx_status-requires c = c.requires.0.held.statuses
-
-pub tx_free-requires : goal.tx_free-requires
-tx_free-requires c = c.requires.0
-
 pub returns-in-8 : goal.returns-in-8
 unfolding window1 view
 returns-in-8 c = rw (c.rx_status.ensures, c.in-8.is)

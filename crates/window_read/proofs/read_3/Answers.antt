@@ -4,12 +4,6 @@ use Rattle.card_rules.specs.View.{view}
 use Rattle.card_rules.specs.Read.{window3}
 use Rattle.window_read.proofs.read_3.Goals as goal
 
-pub rx_free-requires : goal.rx_free-requires
-rx_free-requires c = c.requires
-
-pub tx_free-requires : goal.tx_free-requires
-tx_free-requires c = c.requires
-
 pub returns-in-0 : goal.returns-in-0
 unfolding window3 view
 returns-in-0 c = rw (c.byte_wide.ensures, c.in-0.is)

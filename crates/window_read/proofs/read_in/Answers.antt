@@ -6,15 +6,6 @@ use Rattle.card_rules.specs.View.{view}
 use Rattle.card_rules.specs.Read.{word_at}
 use Rattle.window_read.proofs.read_in.Goals as goal
 
-pub read_1-requires : goal.read_1-requires
-read_1-requires c = (c.requires.0, c.requires.2 c.in-1.is)
-
-pub read_2-requires : goal.read_2-requires
-read_2-requires c = c.requires.1
-
-pub read_3-requires : goal.read_3-requires
-read_3-requires c = c.requires.0
-
 pub returns-in-0 : goal.returns-in-0
 unfolding view
 returns-in-0 c =

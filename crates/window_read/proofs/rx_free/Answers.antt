@@ -1,7 +1,6 @@
 -- `window_read::rx_free` meets its contract: the size is the configuration's. Assumes nothing.
 use mathlib.Core.Path.{ap, ◌∙◌}
 use Prim.Native.Nat.{ℕ}
-use native.Mathlib.Omega.{arith}
 use Rattle.receive_rules.specs.Reading.{rx_free}
 use Rattle.receive_rules.specs.View.{frames_of}
 use Rattle.card_rules.specs.View.{view}
@@ -10,9 +9,6 @@ use Rattle.window_read.proofs.rx_free.Goals as goal
 
 pub rx_free-requires : goal.rx_free-requires
 rx_free-requires c = rx_sound_at _ _ _ _ c.rx_size.ensures.0 c.requires
-
-pub overflow_cast-result : goal.overflow_cast-result
-overflow_cast-result c = omega (arith, c.rx_free.ensures, c.rx_size.ensures.1)
 
 pub returns : goal.returns
 unfolding view

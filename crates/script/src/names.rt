@@ -1,4 +1,5 @@
 // The first word of a line. A word of up to eight characters is one number, its characters as bytes.
+// Tried, and the proof did not close: `match word { b"power" => .. }` has 61 ends for `_`, and none tells a proof what the characters are not.
 ghost use Rattle.std.specs.Prelude.{◌≡◌};
 ghost use Rattle.bench_rules.specs.Script.{key_of, kind_of};
 

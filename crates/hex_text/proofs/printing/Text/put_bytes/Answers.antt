@@ -1,6 +1,6 @@
 -- `Text::put_bytes` meets its contract: the bytes passed stand behind what was there. Assumes nothing.
-use Rattle.std.proofs.Common.{◌≡◌, ◌++◌, sym, refl, arith, length-append, append-nil, append_assoc}
-use Rattle.bench_rules.specs.Text.{bytes_text, byte_text}
+use Rattle.std.proofs.Common.{sym, refl, arith, length-append, append-nil, append_assoc}
+use Rattle.bench_rules.specs.Text.{bytes_text}
 use Rattle.bench_rules.proofs.Placed.{bytes_more}
 use Rattle.hex_text.proofs.printing.Text.put_bytes.Goals as goal
 

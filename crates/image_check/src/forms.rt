@@ -3,16 +3,16 @@ ghost use Rattle.std.specs.Prelude.{◌≡◌, ◌+◌, ◌≤◌};
 ghost use Rattle.image_rules.specs.Line.{Says, ok_line, refused_line};
 ghost use Rattle.image_rules.specs.Put.{with_hex};
 
-use image_rules::Text;
+use image_rules::{Node, Text};
 
 // `image ok ` and the three words.
-pub fn ok_line(node0: u16, node1: u16, node2: u16) -> Text
-    ensures { Says (ok_line node0 node1 node2) result.len result.bytes }
+pub fn ok_line(node: Node) -> Text
+    ensures { Says (ok_line node.node0 node.node1 node.node2) result.len result.bytes }
 {
     let blank = *b"image ok ............\n";
-    let one = with_hex(blank, 9, node0);
-    let two = with_hex(one, 13, node1);
-    let three = with_hex(two, 17, node2);
+    let one = with_hex(blank, 9, node.node0);
+    let two = with_hex(one, 13, node.node1);
+    let three = with_hex(two, 17, node.node2);
     Text {
         bytes: three,
         len: 22,

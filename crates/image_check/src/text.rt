@@ -17,13 +17,7 @@ pub fn line(found: Result<Node, Refusal>) -> Text
     ensures { contract.Line found result }
 {
     match found {
-        Ok(
-            Node {
-                node0,
-                node1,
-                node2,
-            },
-        ) => ok_line(node0, node1, node2),
+        Ok(node) => ok_line(node),
         Err(why) => refused_line(refusal::number(why)),
     }
 }

@@ -14,7 +14,7 @@ pub const TX_FREE: u16 = 0x0c;
 
 pub const STATUS: u16 = 0x0e;
 
-// Commands: the number in bits 15-11.
+// Commands: the number in bits 15-11. Constants and no enum: the word that is written is a command plus its argument, and an enum would need a function to add them.
 pub const SELECT_WINDOW: u16 = 1 * 2048;
 
 pub const RX_ENABLE: u16 = 4 * 2048;

@@ -56,6 +56,7 @@ pub fn fetch(
     if left < cost {
         return telling::short(c, d, left);
     }
+    // The area is not chosen before one call: the check does not cover a `&mut` that is moved and then lent.
     let read = if n <= sizes::LOOKAHEAD_AREA {
         read_frame(ram, dir, c, look, n)
     } else {

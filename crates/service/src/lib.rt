@@ -14,6 +14,7 @@ pub mod serving; // serving.rt: a whole service: look and receive, begun again w
 
 pub use serving::serve;
 
+// Memory, card and driver stay apart and are no struct: each step of the card lends the memory alone, so that a struct would be taken apart and put together again at each call.
 // Status is read, and the first item that stands is done: TX Complete, else RX Complete, else idle.
 // The read leaves the card as it came, so c itself is handed on: refused, the call hands back the very card.
 #[cycle(look_receive)]

@@ -19,7 +19,7 @@ use Rattle.catalogue_rules.specs.Edit.{on_catalogue, added_to, version_fields, w
 use Rattle.catalogue_rules.specs.Put.{put_at}
 use Rattle.catalogue_rules.specs.PutContracts.{Writes}
 use Rattle.catalogue_put.specs.Places.{card_place, card_end}
-use Rattle.catalogue_add.specs.Taken.{Parsed}
+use Rattle.catalogue_add.proofs.Taken.{Parsed}
 use Rattle.catalogue_add.proofs.New.{versions_new, five_least, card_new, card_new_length, place-fits, version_new, version_new_length}
 use Rattle.catalogue_add.proofs.Choice.{Chooses, sound, room_for_card, room_for_version, card_choice, version_choice, was_sound}
 

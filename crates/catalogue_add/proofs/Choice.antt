@@ -28,7 +28,7 @@ use Rattle.catalogue_rules.specs.Edit.{Change, or_else, if_sound, on_catalogue, 
 use Rattle.catalogue_rules.specs.Put.{put_at}
 use Rattle.catalogue_rules.specs.PutContracts.{Writes}
 use Rattle.catalogue_rules.proofs.Changes.{settle, unread, refusing, writing}
-use Rattle.catalogue_add.specs.Taken.{Parsed}
+use Rattle.catalogue_add.proofs.Taken.{Parsed}
 
 -- No place where the first test holds, listed twice where the second does; the refusal of an unsound image; the new file.
 pub record Chooses (change : Change) (full twice : Bool) (k : Result Node Refusal) (new : List ℕ) : Type 0 where

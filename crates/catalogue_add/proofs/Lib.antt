@@ -5,4 +5,5 @@ mod Choice
 mod Insert
 mod New
 mod Runs
+mod Taken
 mod Whole

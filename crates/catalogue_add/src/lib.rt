@@ -3,15 +3,15 @@
 // stays until the new one is there; a refused call changes no byte.
 mod write;
 
-ghost use Rattle.std.specs.Prelude.{◌≡◌, false, true, ◌+◌, ◌<◌, ◌≤◌, length};
+ghost use Rattle.std.specs.Prelude.{◌≡◌, false, true, ◌+◌, ◌≤◌, length, Ok};
 ghost use Rattle.catalogue_rules.specs.Field.{fields_of};
 ghost use Rattle.catalogue_rules.specs.Turns.{address_of};
-ghost use Rattle.catalogue_rules.specs.Reading.{addresses_of, is_among, parsed};
+ghost use Rattle.catalogue_rules.specs.Reading.{addresses_of, is_among, parsed, judged};
 ghost use Rattle.catalogue_rules.specs.Archive.{address_in};
+ghost use Rattle.catalogue_rules.specs.RoundTrip.{Bytes};
 ghost use Rattle.catalogue_rules.specs.Edit.{on_catalogue, added_to};
 ghost use Rattle.catalogue_rules.specs.PutContracts.{Writes, Adds};
 ghost use Rattle.catalogue_put.specs.Places.{card_place};
-ghost use Rattle.catalogue_add.specs.Taken.{Parsed};
 
 use catalogue_rules::Counts;
 use image_rules::WordOffset;
@@ -27,53 +27,63 @@ pub fn address_of(image: &[u8]) -> u64
     (high * 65536 + middle) * 65536 + low
 }
 
-// A card's first version.
-fn add_card(
-    file: &[u8],
+// A file whose fields were taken in turn, and the image that is added to it.
+#[derive(Clone, Copy)]
+struct Addition<'a> {
+    file: &'a [u8],
     counts: Counts,
-    image: &[u8; 128],
-    out: &mut [u8],
-) -> Result<usize, Refusal>
-    requires parsed { Parsed file.now counts.cards counts.fields }
-    requires file_value { is_among (address_of (address_in image.now)) (addresses_of (fields_of file.now)) ≡ false }
-    requires out_len { length file.now + 145 ≤ length out.old }
-    ensures { Writes (on_catalogue (parsed file.now) (added_to image.now)) result out.old out.new }
-{
-    if (64 <= counts.cards) | (65532 < counts.fields) {
-        return Err(Refusal::NoPlace);
-    }
-    if catalogue_read::twice(file) {
-        return Err(Refusal::ListedTwice);
-    }
-    image_check::check(image)?;
-    Ok(write::with_card(file, counts.fields, image, out))
+    image: &'a [u8; 128],
+    // The walk over the fields told so many cards and fields.
+    ghost told: { Ok counts ≡ judged (parsed file.now) },
+    ghost bytes: { Bytes file.now },
 }
 
-// One more version of the card whose fields begin at a place.
-fn add_version(
-    file: &[u8],
-    at: usize,
-    counts: Counts,
-    image: &[u8; 128],
-    out: &mut [u8],
-) -> Result<usize, Refusal>
-    requires parsed { Parsed file.now counts.cards counts.fields }
-    requires file_value { is_among (address_of (address_in image.now)) (addresses_of (fields_of file.now)) ≡ true }
-    requires at_value { at ≡ card_place (address_of (address_in image.now)) (fields_of file.now) }
-    requires out_len { length file.now + 145 ≤ length out.old }
-    ensures { Writes (on_catalogue (parsed file.now) (added_to image.now)) result out.old out.new }
-{
-    let versions = catalogue_put::versions(file, at);
-    let last = catalogue_put::last_number(file, at);
-    if (64 < counts.cards) | ((8 <= versions) | ((65535 <= last) | (65533 < counts.fields))) {
-        return Err(Refusal::NoPlace);
+impl<'a> Addition<'a> {
+    // A card's first version.
+    fn card(self, out: &mut [u8]) -> Result<usize, Refusal>
+        requires file_value { is_among (address_of (address_in self.image.now)) (addresses_of (fields_of self.file.now)) ≡ false }
+        requires out_len { length self.file.now + 145 ≤ length out.old }
+        ensures { Writes (on_catalogue (parsed self.entry.file.now) (added_to self.entry.image.now)) result out.old out.new }
+    {
+        let Addition {
+            file,
+            counts,
+            image,
+        } = self;
+        if (64 <= counts.cards) | (65532 < counts.fields) {
+            return Err(Refusal::NoPlace);
+        }
+        if catalogue_read::twice(file) {
+            return Err(Refusal::ListedTwice);
+        }
+        image_check::check(image)?;
+        Ok(write::with_card(file, counts.fields, image, out))
     }
-    if catalogue_read::twice(file) {
-        return Err(Refusal::ListedTwice);
+
+    // One more version of the card whose fields begin at a place.
+    fn version(self, at: usize, out: &mut [u8]) -> Result<usize, Refusal>
+        requires file_value { is_among (address_of (address_in self.image.now)) (addresses_of (fields_of self.file.now)) ≡ true }
+        requires at_value { at ≡ card_place (address_of (address_in self.image.now)) (fields_of self.file.now) }
+        requires out_len { length self.file.now + 145 ≤ length out.old }
+        ensures { Writes (on_catalogue (parsed self.entry.file.now) (added_to self.entry.image.now)) result out.old out.new }
+    {
+        let Addition {
+            file,
+            counts,
+            image,
+        } = self;
+        let versions = catalogue_put::versions(file, at);
+        let last = catalogue_put::last_number(file, at);
+        if (64 < counts.cards) | ((8 <= versions) | ((65535 <= last) | (65533 < counts.fields))) {
+            return Err(Refusal::NoPlace);
+        }
+        if catalogue_read::twice(file) {
+            return Err(Refusal::ListedTwice);
+        }
+        image_check::check(image)?;
+        let place = catalogue_put::card_end(file, at);
+        Ok(write::with_version(file, place, last + 1, counts.fields, image, out))
     }
-    image_check::check(image)?;
-    let place = catalogue_put::card_end(file, at);
-    Ok(write::with_version(file, place, last + 1, counts.fields, image, out))
 }
 
 // Adds a version of the image's card: its latest number plus 1, or 1 for a new card. 12, 2, 15, 16, 18, 19, then 8 to 10.
@@ -87,8 +97,13 @@ pub fn add(file: &[u8], image: &[u8], out: &mut [u8]) -> Result<usize, Refusal>
         return Err(Refusal::LengthOutside);
     };
     let counts = catalogue_read::parse(file)?;
+    let addition = Addition {
+        file,
+        counts,
+        image,
+    };
     match catalogue_put::card_place(file, address_of(image)) {
-        None => add_card(file, counts, image, out),
-        Some(at) => add_version(file, at, counts, image, out),
+        None => addition.card(out),
+        Some(at) => addition.version(at, out),
     }
 }

@@ -3,7 +3,7 @@
 use mathlib.Core.Path.{◌≡◌, sym, ◌∙◌}
 use native.Mathlib.Omega.{arith}
 use Rattle.std.proofs.Common.{rules, Err}
-use Rattle.catalogue_add.proofs.Choice.{short, wrong_length, damaged, goes_on_lem, was_parsed_lem}
+use Rattle.catalogue_add.proofs.Choice.{short, wrong_length, damaged, goes_on_lem}
 use Rattle.catalogue_add.proofs.add.Goals.{then-out-lt145-via-then-out-lt145, then-out-lt145-via-else-out-lt145+then-out-file}
 use Rattle.catalogue_add.proofs.add.Goals as goal
 
@@ -20,16 +20,10 @@ returns-in_err-counts c =
     let told : c.from_residual.result ≡ Err c.in_err-counts.field-0.0 = search rules in
     rw told (damaged c.args.file.now c.args.image.now c.args.out.now (omega arith) c.in-Ok.ensures.1.long _ (sym c.in_err-counts.was ∙ c.parse.ensures))
 
-pub add_card-requires-clause-parsed : goal.add_card-requires-clause-parsed
-add_card-requires-clause-parsed c = was_parsed_lem c.args.file.now (sym c.in_ok-counts.was ∙ c.parse.ensures)
-
-pub add_version-requires-clause-parsed : goal.add_version-requires-clause-parsed
-add_version-requires-clause-parsed c = was_parsed_lem c.args.file.now (sym c.in_ok-counts.was ∙ c.parse.ensures)
-
 pub returns-in-None : goal.returns-in-None
 returns-in-None c =
-    goes_on_lem c.args.file.now c.args.image.now c.args.out.now (omega arith) c.in-Ok.ensures.1.long c.in-Ok.ensures.1.same c.add_card.ensures
+    goes_on_lem c.args.file.now c.args.image.now c.args.out.now (omega arith) c.in-Ok.ensures.1.long c.in-Ok.ensures.1.same c.card.ensures
 
 pub returns-in-Some : goal.returns-in-Some
 returns-in-Some c =
-    goes_on_lem c.args.file.now c.args.image.now c.args.out.now (omega arith) c.in-Ok.ensures.1.long c.in-Ok.ensures.1.same c.add_version.ensures
+    goes_on_lem c.args.file.now c.args.image.now c.args.out.now (omega arith) c.in-Ok.ensures.1.long c.in-Ok.ensures.1.same c.version.ensures

@@ -1,4 +1,4 @@
--- What private functions of `catalogue_add` ask: nobody needs it to believe the addition.
+-- A file whose fields were taken in turn.
 -- Assumes nothing.
 use Rattle.std.specs.Prelude.{ℕ, ◌≡◌, List, length}
 use Rattle.catalogue_rules.specs.Field.{Field, fields_of}

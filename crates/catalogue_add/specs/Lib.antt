@@ -1,2 +1,0 @@
--- What the contracts of `catalogue_add` cite.
-pub mod Taken

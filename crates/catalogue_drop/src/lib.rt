@@ -39,6 +39,7 @@ fn drop_behind(file: &[u8], at: usize, fields: usize, out: &mut [u8]) -> usize
 }
 
 // Copies the bytes that stay, with a new count behind them, and answers how many there are.
+// Its places stay parameters: each is used once here, so that a struct of them would only say each name twice more.
 fn copy_around(
     file: &[u8],
     kept: usize,

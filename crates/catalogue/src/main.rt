@@ -51,6 +51,7 @@ fn argument<'a>(rt: &HostRuntime, i: usize, room: &'a mut [u8; 4096]) -> Option<
 }
 
 fn main(rt: HostRuntime) {
+    // A room each: the borrow check does not cover an array of rooms that is lent in parts.
     let mut one = [0u8; 4096];
     let mut two = [0u8; 4096];
     let mut three = [0u8; 4096];

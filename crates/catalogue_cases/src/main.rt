@@ -190,6 +190,7 @@ fn word<'a>(rt: &HostRuntime, i: usize, room: &'a mut [u8; 4096]) -> &'a [u8]
 fn arguments(rt: &HostRuntime, first: usize)
     requires { first + 4 < 18446744073709551616 }
 {
+    // A room each: the borrow check does not cover an array of rooms that is lent in parts.
     let mut call = [0u8; 4096];
     let mut one = [0u8; 4096];
     let mut two = [0u8; 4096];

@@ -49,6 +49,7 @@ pub fn open(rt: &HostRuntime, path: &[u8]) -> io::Result<File> {
 }
 
 // Reads until the room is full, the input ends or a read fails, and answers how many bytes were put at the start of the room.
+// By hand: std's `read_exact` does not say how many came where the input ends.
 pub fn read_full<R: Read>(from: &mut R, room: &mut [u8]) -> usize
     ensures { IsPrefixLen result room.new }
 {

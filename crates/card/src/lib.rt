@@ -26,6 +26,8 @@ fn refused<T>(card: Card, why: Refusal) -> After<T>
     }
 }
 
+// The calls below are written out: each is its test, its step and its answer, and a function over closures for the three would hide the step.
+
 // The host reads a word.
 pub fn read_word(ram: &[u8; 8192], dir: &[u16; 1110], c: Card, o: u16) -> After<u16>
     ensures { contract.ReadsWord c ram.now dir.now o result }

@@ -5,7 +5,7 @@ ghost use Rattle.codes.specs.Codes.{coded_found, coded_activated};
 use crate::code;
 use port_rules::{After, AfterSearch, Bus, Cards};
 
-// The cards after a search; the addresses found, how many they are, the accesses used, and the code.
+// The cards after a search; the addresses found, how many they are, the accesses used, and the code. It is C's, as are all structs of this crate: one for each answer, with plain fields.
 #[repr(C)]
 #[derive(Clone, Copy)]
 pub struct BusFound {

@@ -97,7 +97,7 @@ fn is_line(irq: u16) -> bool
     matches!(irq, 3 | 5 | 7 | 9 | 10 | 11 | 12 | 15)
 }
 
-// The interrupt line that the card drives, 0 for none: the latch alone raises no line.
+// The interrupt line that the card drives: the latch alone raises no line. 0 stands for none, as the public call's contract has it (`InterruptLine`).
 pub fn interrupt_line(c: Card) -> u16
     ensures { (ram dir : List ℕ) → result ≡ interrupt_line (view c ram dir) }
 {

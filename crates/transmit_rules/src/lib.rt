@@ -10,7 +10,7 @@ pub struct Fifo {
     pub words: usize,
 }
 
-// The first `count` of 31 entries are the statuses.
+// The first `count` of 31 entries are the statuses; C hands them over as they lie.
 #[repr(C)]
 #[derive(Clone, Copy)]
 pub struct Statuses {

@@ -1,5 +1,5 @@
 #![tactic(auto)]
-// The register map: what a word read gives, window by window.
+// The register map: what a word read gives, window by window. A register is told by its offset, as the manual tables it; an enum of offsets would say each number twice.
 ghost use Rattle.std.specs.Prelude.{◌≡◌, List, ℕ, ◌+◌, ◌*◌, ◌-◌, ◌%◌, ◌≤◌, ◌<◌};
 ghost use Rattle.bits.specs.Bits.{has, weigh};
 ghost use Rattle.receive_rules.specs.Reading.{rx_free};

@@ -1,5 +1,6 @@
 #![tactic(auto)]
 // The register map: what a write does, window by window. A write covers both bytes of a register, its low byte or its high byte.
+// Registers are told by their offsets, as in `window_read`.
 ghost use Rattle.std.specs.Prelude.{◌≡◌, ◌%◌, ◌<◌};
 ghost use Rattle.transmit_rules.specs.OutcomesView.{Stacked};
 ghost use Rattle.card_rules.specs.Update.{id_address, id_shift, config_resource, config_first};

@@ -2,23 +2,28 @@
 ghost use Rattle.std.specs.Prelude.{◌≡◌};
 ghost use Rattle.abi.specs.Sizes as says;
 
+use card_rules::Card;
+use driver_rules::Driver;
+use port_rules::Bus;
+use std::mem::size_of;
+
 #[unsafe(no_mangle)]
 pub extern "C" fn seamtrout_card_size() -> usize
     ensures { result ≡ says.card }
 {
-    264
+    size_of::<Card>()
 }
 
 #[unsafe(no_mangle)]
 pub extern "C" fn seamtrout_driver_size() -> usize
     ensures { result ≡ says.driver }
 {
-    6
+    size_of::<Driver>()
 }
 
 #[unsafe(no_mangle)]
 pub extern "C" fn seamtrout_bus_size() -> usize
     ensures { result ≡ says.bus }
 {
-    1112
+    size_of::<Bus>()
 }

@@ -55,7 +55,7 @@ fn called(t: Tally, r: After<()>) -> Bench {
     after(t, r, |_| 1)
 }
 
-// A host's access.
+// A host's access; `kind` is drawn by chance, and so it is a number.
 fn access(
     ram: &mut [u8; 8192],
     dir: &mut [u16; 1110],
@@ -73,7 +73,7 @@ fn access(
     }
 }
 
-// An event of the wire, or a send outcome.
+// An event of the wire, or a send outcome; `kind` is drawn, too.
 fn event(
     ram: &mut [u8; 8192],
     dir: &mut [u16; 1110],

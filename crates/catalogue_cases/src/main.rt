@@ -50,7 +50,7 @@ fn place(rt: &HostRuntime, found: Result<Span, Refusal>) {
     }
 }
 
-// An address; 0 where the word is none.
+// An address; 0 where the word is none, as the stored runs have it.
 fn address(word: &[u8]) -> u64 {
     catalogue_text::address(word).unwrap_or(0)
 }

@@ -18,7 +18,7 @@ pub fn room() -> [u8; ROOM]
     [0; ROOM]
 }
 
-// What was read of a file, at the start of the room, and whether the file goes on.
+// What was read of a file, at the start of the room, and whether the file goes on: both are there at once, so that no Option would tell them.
 #[derive(Clone, Copy)]
 pub struct Got<'a> {
     pub bytes: &'a [u8],

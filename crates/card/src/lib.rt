@@ -6,6 +6,7 @@ ghost use Rattle.card_rules.specs.CardContracts as contract;
 use card_rules::{After, Card, RxStatus};
 use port_rules::IdState;
 use refusal::Refusal;
+use regs::Seen;
 
 mod tests; // tests.rt: the tests of the card's public calls on what they are handed
 
@@ -199,7 +200,8 @@ pub fn rx_status(ram: &[u8; 8192], dir: &[u16; 1110], c: Card) -> Result<RxStatu
             unread: 0,
         });
     }
-    let word = regs::rx_status(ram, dir, c);
-    let unread = regs::unread(ram, dir, c);
+    let seen = Seen { ram, dir, card: &c };
+    let word = seen.rx_status();
+    let unread = seen.unread();
     Ok(RxStatus { word, unread })
 }

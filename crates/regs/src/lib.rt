@@ -14,6 +14,7 @@ ghost use Rattle.card_rules.specs.View.{rx_size_of, view, Held, Sound, Blank, Do
 
 use card_rules::{Card, Config, Flags, Lines, Prom, Select};
 use receive_rules::{Receive, Receiver};
+use std::marker::Model;
 use transmit::outcomes;
 use transmit_rules::{Fifo, Transmit};
 
@@ -199,28 +200,56 @@ pub fn flags_of(ram: &[u8], dir: &[u16], c: Card) -> Flags
     }
 }
 
-// The Status word of a card.
-pub fn status_word(ram: &[u8], dir: &[u16], c: Card) -> u16
-    requires { Sound c ram.now dir.now }
-    ensures { result ≡ status_word (view c ram.now dir.now) }
-{
-    status_of(c.select, flags_of(ram, dir, c))
+// A sound card with its memory, to read from. A contract sees the adapter that they are.
+#[derive(Drop)]
+pub struct Seen<'a> {
+    pub ram: &'a [u8],
+    pub dir: &'a [u16],
+    pub card: &'a Card,
 }
 
-// RX Status.
-pub fn rx_status(ram: &[u8], dir: &[u16], c: Card) -> u16
-    requires { Sound c ram.now dir.now }
-    ensures { result ≡ rx_status c.receive.receiver.read (view c ram.now dir.now).rx.frames }
-{
-    receive::rx_status(ram, dir, rx_size(c.config.second), c.receive)
+impl<'a> Model for Seen<'a> {
+    ghost use Rattle.card_rules.specs.Adapter.{Adapter};
+    ghost use Rattle.card_rules.specs.View.{view as shown, Sound};
+
+    ghost Value = { Adapter };
+
+    ghost view = { λ s. shown s.card.now s.ram.now s.dir.now };
+
+    ghost invariant = { λ s. Sound s.card.now s.ram.now s.dir.now };
 }
 
-// The unread bytes of the oldest frame.
-pub fn unread(ram: &[u8], dir: &[u16], c: Card) -> i16
-    requires { Sound c ram.now dir.now }
-    ensures { result ≡ unread_in c.receive.receiver.read (view c ram.now dir.now).rx.frames }
-{
-    receive::unread(ram, dir, rx_size(c.config.second), c.receive)
+impl<'a> Seen<'a> {
+    // The Status word.
+    pub fn status_word(&self) -> u16
+        ensures { result ≡ status_word self.now }
+    {
+        status_of(self.card.select, flags_of(self.ram, self.dir, *self.card))
+    }
+
+    // RX Status.
+    pub fn rx_status(&self) -> u16
+        ensures { result ≡ rx_status self.now.rx.receiver.read self.now.rx.frames }
+    {
+        receive::rx_status(
+            self.ram,
+            self.dir,
+            rx_size(self.card.config.second),
+            self.card.receive,
+        )
+    }
+
+    // The unread bytes of the oldest frame.
+    pub fn unread(&self) -> i16
+        ensures { result ≡ unread_in self.now.rx.receiver.read self.now.rx.frames }
+    {
+        receive::unread(
+            self.ram,
+            self.dir,
+            rx_size(self.card.config.second),
+            self.card.receive,
+        )
+    }
 }
 
 // RX Early and TX Available, at the end of every step.

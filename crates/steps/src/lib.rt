@@ -11,6 +11,7 @@ ghost use Rattle.card_rules.specs.Gives.{Gives};
 
 use card_rules::{Card, Gone, Got};
 use port_rules::IdState;
+use regs::Seen;
 
 mod effects; // effects.rt: what a step of the card does before it is settled, where that is more than a call
 mod seating; // seating.rt: an ID state, as the ID port left it, becomes the card's own
@@ -35,7 +36,7 @@ pub fn read_word(ram: &[u8], dir: &[u16], c: Card, o: u16) -> Got
     }
     Got {
         card: c,
-        value: window_read::word_at(ram, dir, c, o),
+        value: window_read::word_at(&Seen { ram, dir, card: &c }, o),
     }
 }
 
@@ -50,15 +51,16 @@ pub fn read_byte(ram: &[u8], dir: &[u16], c: Card, o: u16) -> Got
             value: 255,
         };
     }
+    let seen = Seen { ram, dir, card: &c };
     if o % 2 == 0 {
         return Got {
             card: c,
-            value: window_read::word_at(ram, dir, c, o) % 256,
+            value: window_read::word_at(&seen, o) % 256,
         };
     }
     Got {
         card: c,
-        value: window_read::word_at(ram, dir, c, o - 1) / 256,
+        value: window_read::word_at(&seen, o - 1) / 256,
     }
 }
 

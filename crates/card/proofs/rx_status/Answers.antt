@@ -1,6 +1,5 @@
 -- `card::rx_status` meets its contract: it is refused by the test of soundness alone, and else tells the definition's word and count. Assumes nothing.
 use borrow.Author.Rules.{rules}
-use borrow.Author.Tests.{not-true, not-false}
 use mathlib.Core.Path.{refl, ◌∙◌, sym}
 use Rattle.std.proofs.lemmas.Result.{err_from_is_err_and}
 use Rattle.receive_rules.proofs.Count.{back}
@@ -21,15 +20,10 @@ pub returns-then-not-c : goal.returns-then-not-c
 unfolding rx_told rx_word rx_unread view
 returns-then-not-c c =
     let p = passed _ _ _ _ (sym c.in_ok-sound.was ∙ c.sound.ensures) in
-    rw (p.0, not-true _ c.if-not-c.true) refl
+    rw (p.0, c.if-not-c.true) refl
 
-pub rx_status-word-requires : goal.rx_status-word-requires
-rx_status-word-requires c =
-    let p = passed _ _ _ _ (sym c.in_ok-sound.was ∙ c.sound.ensures) in
-    card-told _ _ _ (search rules) (search rules) p.0
-
-pub unread-unread-requires : goal.unread-unread-requires
-unread-unread-requires c =
+pub invariant_of-seen : goal.invariant_of-seen
+invariant_of-seen c =
     let p = passed _ _ _ _ (sym c.in_ok-sound.was ∙ c.sound.ensures) in
     card-told _ _ _ (search rules) (search rules) p.0
 
@@ -37,4 +31,4 @@ pub returns : goal.returns
 unfolding rx_told rx_word rx_unread view
 returns c =
     let p = passed _ _ _ _ (sym c.in_ok-sound.was ∙ c.sound.ensures) in
-    rw (p.0, not-false _ c.if-not-c.false, sym c.rx_status-word.ensures, sym (back c.unread-unread.result c.unread-unread.type_inv ∙ c.unread-unread.ensures)) refl
+    rw (p.0, c.if-not-c.false, c.rx_status-word.ensures, back c.unread-unread.result c.unread-unread.type_inv, c.unread-unread.ensures) refl

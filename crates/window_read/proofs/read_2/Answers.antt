@@ -6,8 +6,8 @@ use Rattle.window_read.proofs.read_2.Goals as goal
 
 pub returns-then-o-lt6 : goal.returns-then-o-lt6
 unfolding window2 view
-returns-then-o-lt6 c ram dir = rw (c.pair.ensures, lt-ltb _ _ c.if-o-lt6.true)
+returns-then-o-lt6 c = rw (← c.s.view_is, c.pair.ensures, lt-ltb _ _ c.if-o-lt6.true)
 
 pub returns : goal.returns
 unfolding window2 view
-returns c ram dir = rw (le-ltb _ _ c.if-o-lt6.false)
+returns c = rw (le-ltb _ _ c.if-o-lt6.false)

@@ -6,11 +6,11 @@ use Rattle.window_read.proofs.read_3.Goals as goal
 
 pub returns-in-0 : goal.returns-in-0
 unfolding window3 view
-returns-in-0 c = rw (c.byte_wide.ensures, c.in-0.is)
+returns-in-0 c = rw (← c.s.view_is, c.byte_wide.ensures, c.in-0.is)
 
 pub returns-in-2 : goal.returns-in-2
 unfolding window3 view
-returns-in-2 c = rw c.in-2.is
+returns-in-2 c = rw (← c.s.view_is, c.in-2.is)
 
 pub returns-in-10 : goal.returns-in-10
 unfolding window3 view

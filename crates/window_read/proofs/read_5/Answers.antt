@@ -6,29 +6,29 @@ use Rattle.window_read.proofs.read_5.Goals as goal
 
 pub returns-in-0 : goal.returns-in-0
 unfolding window5 view
-returns-in-0 c ram dir = rw c.in-0.is
+returns-in-0 c = rw (← c.s.view_is, c.in-0.is)
 
 pub returns-in-2 : goal.returns-in-2
 unfolding window5 view
-returns-in-2 c ram dir = rw c.in-2.is
+returns-in-2 c = rw (← c.s.view_is, c.in-2.is)
 
 pub returns-in-6 : goal.returns-in-6
 unfolding window5 view
-returns-in-6 c ram dir = rw c.in-6.is
+returns-in-6 c = rw (← c.s.view_is, c.in-6.is)
 
 pub returns-in-8 : goal.returns-in-8
 unfolding window5 view
-returns-in-8 c ram dir = rw c.in-8.is
+returns-in-8 c = rw (← c.s.view_is, c.in-8.is)
 
 pub returns-in-10 : goal.returns-in-10
 unfolding window5 view
-returns-in-10 c ram dir = rw c.in-10.is
+returns-in-10 c = rw (← c.s.view_is, c.in-10.is)
 
 pub returns-in-12 : goal.returns-in-12
 unfolding window5 view
-returns-in-12 c ram dir = rw c.in-12.is
+returns-in-12 c = rw (← c.s.view_is, c.in-12.is)
 
 pub returns-in_default : goal.returns-in_default
 unfolding window5 view
-returns-in_default c ram dir =
+returns-in_default c =
     rw (ne_eqb _ _ c.in_default.in_default-own.rest.0.0.0.0.0.1, ne_eqb _ _ c.in_default.in_default-own.rest.0.0.0.0.1, ne_eqb _ _ c.in_default.in_default-own.rest.0.0.0.1, ne_eqb _ _ c.in_default.in_default-own.rest.0.0.1, ne_eqb _ _ c.in_default.in_default-own.rest.0.1, ne_eqb _ _ c.in_default.in_default-own.rest.1)

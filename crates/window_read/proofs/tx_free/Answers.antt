@@ -1,22 +1,16 @@
 -- `window_read::tx_free` meets its contract: the size is the configuration's. Assumes nothing.
-use mathlib.Core.Path.{ap, ◌∙◌}
-use Prim.Native.Nat.{ℕ}
 use native.Mathlib.Omega.{arith}
-use Rattle.transmit_rules.specs.Queue.{free}
-use Rattle.transmit_rules.specs.QueueView.{queue_of}
 use Rattle.card_rules.proofs.Free.{free-le}
 use Rattle.card_rules.specs.View.{view}
 use Rattle.card_rules.proofs.Sides.{tx_sound_at}
 use Rattle.window_read.proofs.tx_free.Goals as goal
 
 pub tx_free-requires : goal.tx_free-requires
-tx_free-requires c = tx_sound_at _ _ _ _ c.tx_size.ensures.0 c.requires
+tx_free-requires c = tx_sound_at _ _ _ _ c.tx_size.ensures.0 c.s.invariant
 
 pub overflow_cast-result : goal.overflow_cast-result
 overflow_cast-result c = omega (arith, c.tx_free.ensures, free-le _ _ c.tx_free.ensures, c.tx_size.ensures.1)
 
 pub returns : goal.returns
 unfolding view
-returns c =
-    let s = c.args in
-    c.tx_free.ensures ∙ ap (λ (n : ℕ). free n (queue_of n s.c.transmit.fifo s.ram.now s.dir.now)) c.tx_size.ensures.0
+returns c = rw (← c.s.view_is, c.tx_free.ensures, c.tx_size.ensures.0)

@@ -1,5 +1,5 @@
 #![tactic(auto)]
-// The answers of the bench: one line each. The definition is `answers/specs/Answers.antt`.
+// The answers of the bench: one line each. The definition is `bench_rules/specs/Answers.antt`.
 ghost use Rattle.std.specs.Prelude.{◌≡◌};
 ghost use Rattle.bench_rules.specs.Answers.{line_of};
 

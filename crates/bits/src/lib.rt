@@ -14,7 +14,7 @@ pub fn wide(b: u8) -> u16
 pub fn pair(high: u8, low: u8) -> u16
     ensures { result ≡ high * 256 + low }
 {
-    u16::from_be_bytes([high, low])
+    u16::from(high) * 256 + u16::from(low)
 }
 
 // The weight of a flag that is set.

@@ -11,9 +11,11 @@ pub fn good_words(dir: &[u16], n: usize) -> bool
     requires { (768 + n ≤ length dir.now) × (n < 65536) }
     ensures { result ≡ good_words (part 768 n dir.now) }
 {
-    dir[FIRST..FIRST + n]
-        .iter()
-        .all(|w| (6 <= w % 2048) & (w % 2048 <= LONGEST))
+    let mut good = true;
+    for &w in &dir[FIRST..FIRST + n] {
+        good = good & ((6 <= w % 2048) & (w % 2048 <= LONGEST));
+    }
+    good
 }
 
 // The packet being written, of which k words have come, has a good length and is not whole yet.

@@ -48,7 +48,11 @@ fn all_ended(dir: &[u16], count: usize) -> bool
     requires { count ≤ length dir.now }
     ensures { result ≡ all_ended (store.part 0 count dir.now) }
 {
-    dir[..count].iter().all(|w| (8 <= w % 2048) & (w % 2048 <= LONGEST) & (*w < COMING))
+    let mut good = true;
+    for &w in &dir[..count] {
+        good = good & ((8 <= w % 2048) & (w % 2048 <= LONGEST) & (w < COMING));
+    }
+    good
 }
 
 // Whether only the newest frame is coming, and it is just while the wire stores it.

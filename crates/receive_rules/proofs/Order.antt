@@ -1,12 +1,12 @@
 -- The order of the frames, and what the directory's words say of it. Assumes nothing.
-use mathlib.Core.Path.{◌≡◌, refl, ap, ap₂, ◌∙◌}
+use mathlib.Core.Path.{◌≡◌, refl, sym, ap, ◌∙◌}
 use mathlib.Core.Bool.{Bool, true, false, not, ◌&&◌, and-true, and_assoc}
 use mathlib.Core.List.{List, [], ◌∷◌, ◌++◌, map}
 use Prim.Native.Nat.{ℕ, zero, suc, ◌+◌, ◌*◌, ◌-◌, ◌%◌, ◌≤◌, ◌<◌}
+use native.Mathlib.Numerals.{add-one}
 use native.Mathlib.Omega.{arith}
 use borrow.Author.Tests.{leb-true, le-leb, lt-leb, ltb-true, ltb-false}
 use lib.Dec.{leb, ltb}
-use Rattle.std.specs.List.{list_all}
 use lib.ListN.{length, get_or, take, drop, length-drop}
 use lib.Seq.{length-take-le, take-suc}
 use Rattle.store.specs.Store as store
@@ -22,11 +22,17 @@ use Rattle.receive_rules.proofs.Laws.{coming-word, room-told}
 pub below-not : (a b : ℕ) → ltb b a ≡ not (leb a b)
 below-not a b = by_test (ltb b a) (λ y. rw (y, lt-leb a b (ltb-true b a y))) (λ n. rw (n, le-leb a b (ltb-false b a n)))
 
--- the test as `all` asks it of each word
-pub all_words : (ws : List ℕ) → list_all (λ (w : ℕ). sized (w % 2048) && ltb w 32768) ws ≡ all_ended ws
+-- the words, one more
+all_snoc : (ws : List ℕ) (w : ℕ) → all_ended (ws ++ (w ∷ [])) ≡ (all_ended ws && ended_word w)
 unfolding all_ended
-all_words [] = refl
-all_words (w ∷ ws) = ap₂ (λ (t u : Bool). sized (w % 2048) && t && u) (below-not 32768 w) (all_words ws)
+all_snoc [] w = and-true (ended_word w)
+all_snoc (x ∷ ws) w = ap (λ (t : Bool). ended_word x && t) (all_snoc ws w) ∙ sym (and_assoc (ended_word x) (all_ended ws) (ended_word w))
+
+pub all_more : (ws : List ℕ) (i : ℕ) → i < length ws → (all_ended (take i ws) && (sized (get_or ws i 0 % 2048) && ltb (get_or ws i 0) 32768)) ≡ all_ended (take (i + 1) ws)
+all_more ws i h =
+    let w : ℕ = get_or ws i 0 in
+    ap (λ (t : Bool). all_ended (take i ws) && (sized (w % 2048) && t)) (below-not 32768 w)
+    ∙ sym (ap (λ (j : ℕ). all_ended (take j ws)) (add-one i) ∙ ap all_ended (take-suc ws i 0 h) ∙ all_snoc (take i ws) w)
 
 -- the words of frames that have ended, and one that is coming
 order-words : (ws : List ℕ) (m : List ℕ) → room_of ws ≤ length m → all_ended ws ≡ in_order false (map told (store.frames ws m))

@@ -1,14 +1,14 @@
 -- The test that a call makes says what `Holds` says. Assumes nothing.
-use mathlib.Core.Path.{◌≡◌, refl, ap, ◌∙◌}
-use mathlib.Core.Bool.{Bool, true, false, ◌&&◌, ◌||◌}
-use mathlib.Core.List.{List, [], ◌∷◌}
+use mathlib.Core.Path.{◌≡◌, refl, sym, ap, ◌∙◌}
+use mathlib.Core.Bool.{Bool, true, false, ◌&&◌, ◌||◌, and-true, and_assoc}
+use mathlib.Core.List.{List, [], ◌∷◌, ◌++◌}
 use Prim.Native.Nat.{ℕ, zero, suc, ◌+◌, ◌*◌, ◌-◌, ◌%◌, ◌≤◌, ◌<◌}
+use native.Mathlib.Numerals.{add-one}
 use native.Mathlib.Omega.{arith}
 use borrow.Author.Tests.{leb-true, le-leb, lt-leb, eq-eqb}
 use lib.Dec.{leb, ltb, eqb}
-use lib.ListN.{length, drop, get_or, length-drop}
-use lib.Seq.{length-take-le}
-use Rattle.std.specs.List.{list_all}
+use lib.ListN.{length, take, drop, get_or, length-drop}
+use lib.Seq.{length-take-le, take-suc}
 use Rattle.store.specs.Store.{frames, len_of, round4, room_of, part}
 use Rattle.transmit_rules.specs.Queue.{room}
 use Rattle.transmit_rules.specs.Write.{sized}
@@ -19,11 +19,14 @@ use Rattle.bits.proofs.Tests.{by_test, both}
 use Rattle.transmit_rules.proofs.Parts.{part_length}
 use Rattle.transmit_rules.proofs.Facts.{words_of, room_of_lem, facts}
 
--- the test as `all` asks it of each word
-pub all_good : (ws : List ℕ) → list_all (λ (w : ℕ). sized (w % 2048)) ws ≡ good_words ws
+-- the words, one more
+good_snoc : (ws : List ℕ) (w : ℕ) → good_words (ws ++ (w ∷ [])) ≡ (good_words ws && sized (w % 2048))
 unfolding good_words
-all_good [] = refl
-all_good (w ∷ ws) = ap (λ (b : Bool). sized (w % 2048) && b) (all_good ws)
+good_snoc [] w = and-true (sized (w % 2048))
+good_snoc (x ∷ ws) w = ap (λ (t : Bool). sized (x % 2048) && t) (good_snoc ws w) ∙ sym (and_assoc (sized (x % 2048)) (good_words ws) (sized (w % 2048)))
+
+pub good_more : (ws : List ℕ) (i : ℕ) → i < length ws → (good_words (take i ws) && sized (get_or ws i 0 % 2048)) ≡ good_words (take (i + 1) ws)
+good_more ws i h = sym (ap (λ (j : ℕ). good_words (take j ws)) (add-one i) ∙ ap good_words (take-suc ws i 0 h) ∙ good_snoc (take i ws) (get_or ws i 0))
 
 good-frames : (ws m : List ℕ) → room_of ws ≤ length m → all_sized (frames ws m) ≡ good_words ws
 unfolding all_sized good_words frames room_of

@@ -17,13 +17,16 @@ pub fn byte_at(file: &[u8], at: usize) -> u8
 pub fn field_at(file: &[u8], at: usize) -> Option<Found>
     ensures { result ≡ found_at file.now at }
 {
-    let room = file.len().checked_sub(at)?.checked_sub(3)?;
-    let len = u16::from_le_bytes([byte_at(file, at + 1), byte_at(file, at + 2)]) as usize;
+    if file.len() < 3 || file.len() - 3 < at {
+        return None;
+    }
+    let room = file.len() - 3 - at;
+    let len = u16::from_le_bytes([file[at + 1], file[at + 2]]) as usize;
     if room < len {
         return None;
     }
     Some(Found {
-        tag: byte_at(file, at),
+        tag: file[at],
         start: at + 3,
         len,
     })

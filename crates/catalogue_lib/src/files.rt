@@ -1,5 +1,5 @@
 // Files by name: read whole, and replaced whole; - is standard input or output. What fails is said on standard error.
-ghost use Rattle.std.specs.Prelude.{◌≡◌, ◌+◌, ◌≤◌, length, slice_index, IfOk, IfSome};
+ghost use Rattle.std.specs.Prelude.{◌≡◌, ◌+◌, ◌≤◌, length, slice_index, take, IfOk, IfSome};
 
 use crate::file_mode;
 use std::fs::{File, OpenOptions, Permissions};
@@ -104,7 +104,7 @@ pub fn with_tail<'a>(room: &'a mut [u8; 4096], path: &[u8], tail: &[u8]) -> &'a 
 fn ended(name: &[u8; 4096]) -> &[u8]
     requires { slice_index name.now 4095 ≡ 0 }
 {
-    let end = name.iter().position(|b| *b == 0).unwrap_or(4095);
+    let end = name.iter().position(|b| *b == 0).unwrap();
     &name[..end]
 }
 
@@ -263,15 +263,15 @@ fn letter(drawn: u8) -> u8 {
 
 // Flushes the folder that a file stands in, so that the new name lasts too. Not every kind of file system can.
 fn flush_folder(rt: &HostRuntime, path: &[u8]) {
-    if let Ok(open) = host::open(rt, folder(path)) {
+    if let Ok(open) = host::open(rt, folder(path).unwrap_or(b".")) {
         let _ = open.sync_all();
     }
 }
 
-// The part of a path that names its folder, the last slash among it; a dot where there is none.
-fn folder(path: &[u8]) -> &[u8] {
-    match path.iter().rposition(|b| *b == b'/') {
-        Some(slash) => &path[..slash + 1],
-        None => b".",
-    }
+// The front of a path that names its folder, the last slash among it; none where the path names a file alone.
+fn folder(path: &[u8]) -> Option<&[u8]>
+    ensures { IfSome result (λ front. front.now ≡ take (length front.now) path.now) }
+{
+    let slash = path.iter().rposition(|b| *b == b'/')?;
+    Some(&path[..slash + 1])
 }

@@ -24,9 +24,10 @@ fn add_to(rt: &HostRuntime, path: &[u8], from: &[u8]) {
     };
     // One byte more than an image has tells a longer file.
     let mut start = [0u8; 129];
-    let Some(image) = files::read_start(rt, from, &mut start) else {
+    let image = files::read_start(rt, from, &mut start);
+    if image.more.is_err() {
         return;
-    };
+    }
     let mut out = files::room();
     match catalogue_add::add(file, image.bytes, &mut out) {
         Err(why) => refused::addition(rt, file, image.bytes, why),

@@ -14,14 +14,15 @@ pub enum Way {
 fn has_bytes(rt: &HostRuntime, path: &[u8]) -> bool {
     let mut start = [0u8; 1];
     !catalogue_text::is_dash(path)
-        && files::peek(rt, path, &mut start).is_ok_and(|got| !got.bytes.is_empty())
+        && files::peek(rt, path, &mut start).is_ok_and(|got| got.more.is_ok()
+            && !got.bytes.is_empty())
 }
 
 // Whether a sound catalogue stands at the path, the one that is moved out among them.
 fn has_catalogue(rt: &HostRuntime, path: &[u8]) -> bool {
     let mut room = files::room();
     !catalogue_text::is_dash(path)
-        && files::peek(rt, path, &mut room).is_ok_and(|got| !got.more
+        && files::peek(rt, path, &mut room).is_ok_and(|got| matches!(got.more, Ok(false))
             && catalogue_read::check(got.bytes).is_ok())
 }
 

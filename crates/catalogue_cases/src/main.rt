@@ -17,18 +17,15 @@ fn refused(rt: &HostRuntime, why: Refusal) {
     let _ = println!(rt; "refused {}", refusal::number(why));
 }
 
-// What a file begins with, as much as the room holds; nothing where it cannot be read. Says what failed, or that it is larger.
+// What a file begins with, as much as the room holds, and what came before a read that failed. Says what failed, or that the
+// file is larger.
 fn read<'a>(rt: &HostRuntime, path: &[u8], room: &'a mut [u8]) -> &'a [u8] {
     let size = room.len();
-    match files::read_start(rt, path, room) {
-        Some(got) => {
-            if got.more {
-                catalogue_text::larger(rt, path, size);
-            }
-            got.bytes
-        }
-        None => &[],
+    let got = files::read_start(rt, path, room);
+    if let Ok(true) = got.more {
+        catalogue_text::larger(rt, path, size);
     }
+    got.bytes
 }
 
 fn check(rt: &HostRuntime, a: &[u8]) {
@@ -103,11 +100,8 @@ fn add(rt: &HostRuntime, a: &[u8], b: &[u8], out: &mut [u8], res: &[u8]) {
     let mut room = files::room();
     let file = read(rt, a, &mut room);
     let mut image = [0u8; 129];
-    let image = match files::read_start(rt, b, &mut image) {
-        Some(got) => got.bytes,
-        None => &[],
-    };
-    let change = catalogue_add::add(file, image, out);
+    let image = files::read_start(rt, b, &mut image);
+    let change = catalogue_add::add(file, image.bytes, out);
     written(rt, change, out, res);
 }
 

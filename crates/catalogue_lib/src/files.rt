@@ -18,23 +18,23 @@ pub fn room() -> [u8; ROOM]
     [0; ROOM]
 }
 
-// What was read of a file, at the start of the room, and whether the file goes on: both are there at once, so that no Option would tell them.
+// What was read of a file, at the start of the room, and whether the file goes on, or what failed behind those bytes.
 #[derive(Clone, Copy)]
 pub struct Got<'a> {
     pub bytes: &'a [u8],
-    pub more: bool,
+    pub more: io::Result<bool>,
 }
 
 // Reads as much as the room holds. One byte more tells a read that failed, a folder's too, and a file that goes on.
-fn take<'a, R: Read>(from: &mut R, room: &'a mut [u8]) -> io::Result<Got<'a>>
-    ensures { IfOk result (λ got. length got.bytes.now ≤ length room.old) }
+fn take<'a, R: Read>(from: &mut R, room: &'a mut [u8]) -> Got<'a>
+    ensures { length result.bytes.now ≤ length room.old }
 {
     let len = host::read_full(from, room);
-    let next = from.read(&mut [0u8; 1])?;
-    Ok(Got {
+    let more = from.read(&mut [0u8; 1]).map(|n| 0 < n);
+    Got {
         bytes: &room[..len],
-        more: 0 < next,
-    })
+        more,
+    }
 }
 
 // Looks into the start of a file that may be missing, and says nothing.
@@ -42,25 +42,29 @@ pub fn peek<'a>(rt: &HostRuntime, path: &[u8], room: &'a mut [u8]) -> io::Result
     ensures { IfOk result (λ got. length got.bytes.now ≤ length room.old) }
 {
     let mut file = host::open(rt, path)?;
-    take(&mut file, room)
+    Ok(take(&mut file, room))
 }
 
-// Reads the start of a file, as much as the room holds; - is standard input. Says what failed.
-pub fn read_start<'a>(rt: &HostRuntime, path: &[u8], room: &'a mut [u8]) -> Option<Got<'a>>
-    ensures { IfSome result (λ got. length got.bytes.now ≤ length room.old) }
+// Reads the start of a file, as much as the room holds; - is standard input. Says what failed; where the file does not open,
+// nothing was read.
+pub fn read_start<'a>(rt: &HostRuntime, path: &[u8], room: &'a mut [u8]) -> Got<'a>
+    ensures { length result.bytes.now ≤ length room.old }
 {
     let got = if catalogue_text::is_dash(path) {
         take(&mut rt.stdin(), room)
     } else {
-        peek(rt, path, room)
-    };
-    match got {
-        Ok(got) => Some(got),
-        Err(why) => {
-            host::fail(rt, catalogue_text::source(path), why);
-            None
+        match peek(rt, path, room) {
+            Ok(got) => got,
+            Err(why) => Got {
+                bytes: &[],
+                more: Err(why),
+            },
         }
+    };
+    if let Err(why) = got.more {
+        host::fail(rt, catalogue_text::source(path), why);
     }
+    got
 }
 
 // Reads a whole file. One that the room does not hold is refused.
@@ -68,12 +72,15 @@ pub fn read<'a>(rt: &HostRuntime, path: &[u8], room: &'a mut [u8]) -> Option<&'a
     ensures { IfSome result (λ bytes. length bytes.now ≤ length room.old) }
 {
     let size = room.len();
-    let got = read_start(rt, path, room)?;
-    if got.more {
-        catalogue_text::larger(rt, path, size);
-        return None;
+    let got = read_start(rt, path, room);
+    match got.more {
+        Ok(false) => Some(got.bytes),
+        Ok(true) => {
+            catalogue_text::larger(rt, path, size);
+            None
+        }
+        Err(_) => None,
     }
-    Some(got.bytes)
 }
 
 // Writes a whole file, - to standard output, and answers whether it was written.

@@ -4,21 +4,32 @@ use catalogue_why::{Again, Full, Pair};
 use refusal::Refusal;
 
 fn begin(rt: &HostRuntime, why: Refusal) {
-    let _ = eprint!(rt; "refused {}: ", refusal::number(why));
+    warn(rt, b"refused ");
+    let _ = eprint!(rt; "{}", refusal::number(why));
+    warn(rt, b": ");
 }
 
-fn at_byte(rt: &HostRuntime, what: &str, place: usize) {
-    let _ = eprint!(rt; "{what}, at byte {place}");
+fn at_byte(rt: &HostRuntime, what: &[u8], place: usize) {
+    warn(rt, what);
+    warn(rt, b", at byte ");
+    let _ = eprint!(rt; "{place}");
 }
 
 fn listed_twice(rt: &HostRuntime, file: &[u8]) {
-    if let Some(Again { address, at }) = catalogue_why::repeated(file) {
-        let _ = eprint!(rt; "an address is listed twice: {address:012X}, again at byte {at}");
-    }
+    let nowhere = Again {
+        address: 0,
+        at: catalogue_why::end(file),
+    };
+    let Again { address, at } = catalogue_why::repeated(file).unwrap_or(nowhere);
+    warn(rt, b"an address is listed twice: ");
+    let _ = eprint!(rt; "{address:012X}");
+    warn(rt, b", again at byte ");
+    let _ = eprint!(rt; "{at}");
 }
 
 fn too_many(rt: &HostRuntime, cards: usize) {
-    let _ = eprint!(rt; "no room for a card: it has {cards}");
+    warn(rt, b"no room for a card: it has ");
+    let _ = eprint!(rt; "{cards}");
 }
 
 // What is wrong with a file, or with the image that is to go in.
@@ -29,8 +40,8 @@ fn words(rt: &HostRuntime, file: &[u8], why: Refusal) {
         Refusal::ChecksumWrong => warn(rt, b"word 0Fh of an image is not the checksum"),
         Refusal::SecondaryWrong => warn(rt, b"word 17h of an image is not the secondary checksums"),
         Refusal::ArgumentOutside => warn(rt, b"no room to write the changed file"),
-        Refusal::FieldDamaged => at_byte(rt, "a field is damaged", catalogue_why::damage(file)),
-        Refusal::FileEndsEarly => at_byte(rt, "the file ends early", catalogue_why::end(file)),
+        Refusal::FieldDamaged => at_byte(rt, b"a field is damaged", catalogue_why::damage(file)),
+        Refusal::FileEndsEarly => at_byte(rt, b"the file ends early", catalogue_why::end(file)),
         Refusal::NoSuchCard => warn(rt, b"no such card"),
         Refusal::NoPlace => too_many(rt, catalogue_why::cards(file)),
         Refusal::ListedTwice => listed_twice(rt, file),
@@ -77,21 +88,32 @@ pub fn addition(rt: &HostRuntime, file: &[u8], image: &[u8], why: Refusal) {
 }
 
 // A word of the first image that has it wrong.
-fn word_of(rt: &HostRuntime, archive: &[u8], word: &str, why: Refusal, is_not: &str) {
-    if let Some(image) = catalogue_why::unsound(archive, why) {
-        let _ = eprint!(rt; "word {word} of image {image} is not {is_not}");
-    }
+fn word_of(rt: &HostRuntime, archive: &[u8], word: &[u8], why: Refusal, is_not: &[u8]) {
+    let image = catalogue_why::unsound(archive, refusal::number(why)).unwrap_or(0);
+    warn(rt, word);
+    warn(rt, b" of image ");
+    let _ = eprint!(rt; "{image}");
+    warn(rt, is_not);
 }
 
 fn twins(rt: &HostRuntime, archive: &[u8]) {
-    if let Some(Pair { first, second }) = catalogue_why::twins(archive) {
-        let _ = eprint!(rt; "images {first} and {second} have one address");
-    }
+    let none = Pair {
+        first: 0,
+        second: 0,
+    };
+    let Pair { first, second } = catalogue_why::twins(archive).unwrap_or(none);
+    warn(rt, b"images ");
+    let _ = eprint!(rt; "{first}");
+    warn(rt, b" and ");
+    let _ = eprint!(rt; "{second}");
+    warn(rt, b" have one address");
 }
 
 fn cut_image(rt: &HostRuntime, archive: &[u8]) {
     let image = archive.len() / 128 + 1;
-    let _ = eprint!(rt; "not 128 bytes to an image: image {image} is cut");
+    warn(rt, b"not 128 bytes to an image: image ");
+    let _ = eprint!(rt; "{image}");
+    warn(rt, b" is cut");
 }
 
 // Of an archive that was to be moved in.
@@ -99,9 +121,15 @@ pub fn archive(rt: &HostRuntime, archive: &[u8], why: Refusal) {
     begin(rt, why);
     match why {
         Refusal::LengthOutside => cut_image(rt, archive),
-        Refusal::MakerWrong => word_of(rt, archive, "07h", why, "6D50h"),
-        Refusal::ChecksumWrong => word_of(rt, archive, "0Fh", why, "the checksum"),
-        Refusal::SecondaryWrong => word_of(rt, archive, "17h", why, "the secondary checksums"),
+        Refusal::MakerWrong => word_of(rt, archive, b"word 07h", why, b" is not 6D50h"),
+        Refusal::ChecksumWrong => word_of(rt, archive, b"word 0Fh", why, b" is not the checksum"),
+        Refusal::SecondaryWrong => word_of(
+            rt,
+            archive,
+            b"word 17h",
+            why,
+            b" is not the secondary checksums",
+        ),
         Refusal::NoPlace => too_many(rt, archive.len() / 128),
         Refusal::ListedTwice => twins(rt, archive),
         _ => words(rt, archive, why),

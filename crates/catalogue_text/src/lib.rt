@@ -64,8 +64,9 @@ fn of_file(rt: &HostRuntime, path: &[u8], what: &[u8]) {
 }
 
 pub fn larger(rt: &HostRuntime, path: &[u8], room: usize) {
-    warn(rt, source(path));
-    let _ = eprintln!(rt; ": larger than {room} bytes");
+    of_file(rt, source(path), b": larger than ");
+    let _ = eprint!(rt; "{room}");
+    warn(rt, b" bytes\n");
 }
 
 pub fn too_long(rt: &HostRuntime, path: &[u8]) {

@@ -1,10 +1,9 @@
 // Which images of an archive, a row of 128 bytes each, are wrong. Images are counted from 1.
-use refusal::Refusal;
 
-// The first image that the check refuses so.
-pub fn unsound(archive: &[u8], why: Refusal) -> Option<usize> {
+// The first image that the check refuses by this number.
+pub fn unsound(archive: &[u8], number: u8) -> Option<usize> {
     let before = archive.chunks_exact(128).position(|image| image_check::check(image).is_err_and(
-        |own| own == why,
+        |why| refusal::number(why) == number,
     ))?;
     Some(before + 1)
 }

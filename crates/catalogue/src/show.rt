@@ -70,14 +70,15 @@ pub fn given(rt: &HostRuntime, path: &[u8], address: &[u8], version: &[u8]) {
 
 // A line for each word that differs.
 fn compare(rt: &HostRuntime, old: &[u8], new: &[u8]) -> io::Result<()> {
+    let mut whole = Ok(());
     for word in 0..64 {
         let before = image_check::word_at(old, WordOffset(word));
         let now = image_check::word_at(new, WordOffset(word));
         if before != now {
-            catalogue_text::changed(rt, word, before, now)?;
+            whole = catalogue_text::changed(rt, word, before, now).and(whole);
         }
     }
-    Ok(())
+    whole
 }
 
 // The places of two versions. The second may be missing where the file is refused with a higher number.

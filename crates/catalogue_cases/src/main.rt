@@ -14,7 +14,9 @@ fn tell(rt: &HostRuntime, text: &[u8]) {
 }
 
 fn refused(rt: &HostRuntime, why: Refusal) {
-    let _ = println!(rt; "refused {}", refusal::number(why));
+    tell(rt, b"refused ");
+    let _ = print!(rt; "{}", refusal::number(why));
+    tell(rt, b"\n");
 }
 
 // What a file begins with, as much as the room holds, and what came before a read that failed. Says what failed, or that the
@@ -35,15 +37,19 @@ fn check(rt: &HostRuntime, a: &[u8]) {
     }
 }
 
-fn at(rt: &HostRuntime, what: &str, span: Span) {
+fn at(rt: &HostRuntime, what: &[u8], span: Span) {
     let Span { start, len } = span;
-    let _ = println!(rt; "{what}{len} bytes at {start}");
+    tell(rt, what);
+    let _ = print!(rt; "{len}");
+    tell(rt, b" bytes at ");
+    let _ = print!(rt; "{start}");
+    tell(rt, b"\n");
 }
 
 fn place(rt: &HostRuntime, found: Result<Span, Refusal>) {
     match found {
         Err(why) => refused(rt, why),
-        Ok(span) => at(rt, "", span),
+        Ok(span) => at(rt, b"", span),
     }
 }
 
@@ -73,8 +79,8 @@ fn lookup(rt: &HostRuntime, a: &[u8], b: &[u8], who: &[u8]) {
     let main = read(rt, b, &mut other);
     match catalogue_lookup::lookup(own, main, address(who)) {
         Err(why) => refused(rt, why),
-        Ok(Hit::InOverride(span)) => at(rt, "override, ", span),
-        Ok(Hit::InMain(span)) => at(rt, "main, ", span),
+        Ok(Hit::InOverride(span)) => at(rt, b"override, ", span),
+        Ok(Hit::InMain(span)) => at(rt, b"main, ", span),
     }
 }
 
@@ -83,7 +89,8 @@ fn written(rt: &HostRuntime, change: Result<usize, Refusal>, out: &[u8], res: &[
     match change {
         Err(why) => refused(rt, why),
         Ok(n) => {
-            let _ = print!(rt; "bytes {n}");
+            tell(rt, b"bytes ");
+            let _ = print!(rt; "{n}");
             let mut room = files::room();
             if catalogue_lookup::part(out, 0, n) == read(rt, res, &mut room) {
                 tell(rt, b", those of ");

@@ -13,8 +13,14 @@ fn main(rt: HostRuntime) {
         let _ = println!(rt; "larger than {ROOM} bytes");
         return;
     }
-    let _ = match catalogue_read::check(&room[..n]) {
-        Ok(_) => println!(rt; "sound"),
-        Err(why) => println!(rt; "refused {:2}", refusal::number(why)),
-    };
+    match catalogue_read::check(&room[..n]) {
+        Ok(_) => {
+            let _ = println!(rt; "sound");
+        }
+        Err(why) => {
+            let _ = print!(rt; "refused ");
+            let _ = print!(rt; "{:2}", refusal::number(why));
+            let _ = println!(rt);
+        }
+    }
 }

@@ -102,19 +102,46 @@ pub fn locked(rt: &HostRuntime, path: &[u8]) {
     of_file(rt, path, b" (if none is, remove it)\n");
 }
 
+// What became of pieces that were each written by itself: the last failure, where one failed.
+fn joined(pieces: &[io::Result<()>]) -> io::Result<()> {
+    pieces.iter().fold(Ok(()), |whole, piece| piece.and(whole))
+}
+
 pub fn sound(rt: &HostRuntime, counts: Counts) {
     let Counts { cards, fields } = counts;
-    told(rt, println!(rt; "sound: {cards} cards, {fields} fields"));
+    let pieces = [
+        print!(rt; "sound: "),
+        print!(rt; "{cards}"),
+        print!(rt; " cards, "),
+        print!(rt; "{fields}"),
+        println!(rt; " fields"),
+    ];
+    told(rt, joined(&pieces));
 }
 
 // The version that a card got.
 pub fn added(rt: &HostRuntime, number: u16, address: u64) {
-    told(rt, println!(rt; "version {number} of {address:012X}"));
+    let pieces = [
+        print!(rt; "version "),
+        print!(rt; "{number}"),
+        print!(rt; " of "),
+        print!(rt; "{address:012X}"),
+        println!(rt),
+    ];
+    told(rt, joined(&pieces));
 }
 
 // A word of an image that another image has otherwise.
 pub fn changed(rt: &HostRuntime, word: usize, old: u16, new: u16) -> io::Result<()> {
-    println!(rt; "word {word:02X}: {old:04X} -> {new:04X}")
+    joined(&[
+        print!(rt; "word "),
+        print!(rt; "{word:02X}"),
+        print!(rt; ": "),
+        print!(rt; "{old:04X}"),
+        print!(rt; " -> "),
+        print!(rt; "{new:04X}"),
+        println!(rt),
+    ])
 }
 
 // A card to a line: its address, and the numbers of its versions.
@@ -125,28 +152,30 @@ pub fn cards(rt: &HostRuntime, file: &[u8]) {
 fn card_lines(rt: &HostRuntime, file: &[u8]) -> io::Result<()> {
     let mut at = 0;
     let mut some = false;
+    let mut whole = Ok(());
     while let Some(field) = catalogue_read::field_at(file, at) {
         match field.tag {
             ADDRESS => {
                 if some {
-                    println!(rt)?;
+                    whole = println!(rt).and(whole);
                 }
                 let address = catalogue_read::address_at(file, field.start, field.len);
-                print!(rt; "{address:012X}")?;
+                whole = print!(rt; "{address:012X}").and(whole);
                 some = true;
             }
             NUMBER => {
                 let number = catalogue_read::value_number(file, field.start, field.len);
-                print!(rt; " {number}")?;
+                whole = print!(rt; " ").and(whole);
+                whole = print!(rt; "{number}").and(whole);
             }
             _ => {}
         }
         at = field.start + field.len;
     }
     if some {
-        println!(rt)?;
+        whole = println!(rt).and(whole);
     }
-    Ok(())
+    whole
 }
 
 // Twelve hexadecimal digits, upper or lower case.

@@ -1,48 +1,44 @@
-// The forms of the lines.
+// The forms of the lines. Each takes the place of what stood in the text.
 ghost use Rattle.std.specs.Prelude.{◌≡◌, ◌+◌, ◌*◌, ◌≤◌, ◌++◌, length, take};
 ghost use Rattle.bench_rules.specs.Answers.{labelled, word_line, byte_line, signed_text, rx_status_line, accesses_text, status_line, report_line, bytes_line, frame_line, seven_at_most, found_line, address_text, addresses_text, shortened};
 
 use hex_text::Text;
 
-// A line that is always the same.
-pub fn fixed(s: &[u8]) -> Text
+// A line that is always the same, or how one begins.
+pub fn fixed(text: &mut Text, s: &[u8])
     requires { length s.now ≤ 32 }
-    ensures { result ≡ s.now }
+    ensures { text.new ≡ s.now }
 {
-    let mut text = Text::new();
+    text.clear();
     text.put(s);
-    text
 }
 
 // A label and a number.
-pub fn numbered(label: &[u8], n: u32) -> Text
+pub fn numbered(text: &mut Text, label: &[u8], n: u32)
     requires { length label.now ≤ 32 }
-    ensures { result ≡ labelled label.now n }
+    ensures { text.new ≡ labelled label.now n }
 {
-    let mut text = fixed(label);
+    fixed(text, label);
     text.put_decimal(n);
     text.put(b"\n");
-    text
 }
 
 // = and four digits.
-pub fn word(v: u16) -> Text
-    ensures { result ≡ word_line v }
+pub fn word(text: &mut Text, v: u16)
+    ensures { text.new ≡ word_line v }
 {
-    let mut text = fixed(b"= ");
+    fixed(text, b"= ");
     text.put_word(v);
     text.put(b"\n");
-    text
 }
 
 // = and two digits.
-pub fn byte(v: u16) -> Text
-    ensures { result ≡ byte_line v }
+pub fn byte(text: &mut Text, v: u16)
+    ensures { text.new ≡ byte_line v }
 {
-    let mut text = fixed(b"= ");
+    fixed(text, b"= ");
     text.put_byte((v % 256) as u8);
     text.put(b"\n");
-    text
 }
 
 // A number in decimal, with a minus sign below 0.
@@ -58,15 +54,14 @@ fn put_signed(text: &mut Text, n: i16)
 }
 
 // RX Status, and the unread bytes.
-pub fn rx_status(v: u16, n: i16) -> Text
-    ensures { result ≡ rx_status_line v n }
+pub fn rx_status(text: &mut Text, v: u16, n: i16)
+    ensures { text.new ≡ rx_status_line v n }
 {
-    let mut text = fixed(b"rx ");
+    fixed(text, b"rx ");
     text.put_word(v);
     text.put(b" unread ");
-    put_signed(&mut text, n);
+    put_signed(text, n);
     text.put(b"\n");
-    text
 }
 
 // The accesses used, at the end of a line. A count has at most five digits.
@@ -80,25 +75,23 @@ fn put_accesses(text: &mut Text, used: usize)
 }
 
 // A status without a ticket.
-pub fn status(s: u16, used: usize) -> Text
-    ensures { result ≡ status_line s used }
+pub fn status(text: &mut Text, s: u16, used: usize)
+    ensures { text.new ≡ status_line s used }
 {
-    let mut text = fixed(b"status ");
+    fixed(text, b"status ");
     text.put_byte((s % 256) as u8);
-    put_accesses(&mut text, used);
-    text
+    put_accesses(text, used);
 }
 
 // A ticket and its status.
-pub fn report(ticket: u16, s: u16, used: usize) -> Text
-    ensures { result ≡ report_line ticket s used }
+pub fn report(text: &mut Text, ticket: u16, s: u16, used: usize)
+    ensures { text.new ≡ report_line ticket s used }
 {
-    let mut text = fixed(b"report ");
+    fixed(text, b"report ");
     text.put_decimal(u32::from(ticket));
     text.put(b" ");
     text.put_byte((s % 256) as u8);
-    put_accesses(&mut text, used);
-    text
+    put_accesses(text, used);
 }
 
 // At most 1,792 bytes are told.
@@ -109,26 +102,24 @@ pub fn part(bytes: &[u8]) -> &[u8]
 }
 
 // What the wire is told.
-pub fn wire(bytes: &[u8]) -> Text
+pub fn wire(text: &mut Text, bytes: &[u8])
     requires { length bytes.now ≤ 1792 }
-    ensures { result ≡ bytes_line bytes.now }
+    ensures { text.new ≡ bytes_line bytes.now }
 {
-    let mut text = fixed(b"wire ");
+    fixed(text, b"wire ");
     text.put_bytes(bytes);
     text.put(b"\n");
-    text
 }
 
 // A frame handed up, from the area that the label names.
-pub fn frame(label: &[u8], bytes: &[u8], used: usize) -> Text
+pub fn frame(text: &mut Text, label: &[u8], bytes: &[u8], used: usize)
     requires label { length label.now ≤ 32 }
     requires bytes { length bytes.now ≤ 1792 }
-    ensures { result ≡ frame_line label.now bytes.now used }
+    ensures { text.new ≡ frame_line label.now bytes.now used }
 {
-    let mut text = fixed(label);
+    fixed(text, label);
     text.put_bytes(bytes);
-    put_accesses(&mut text, used);
-    text
+    put_accesses(text, used);
 }
 
 // A blank and an address.
@@ -144,17 +135,16 @@ fn put_address(text: &mut Text, a: u64)
 }
 
 // How many cards were found, the accesses used, and the addresses, seven at most.
-pub fn found(m: usize, used: usize, found: [u64; 7]) -> Text
-    ensures { result ≡ found_line (seven_at_most m) used found }
+pub fn found(text: &mut Text, m: usize, used: usize, found: [u64; 7])
+    ensures { text.new ≡ found_line (seven_at_most m) used found }
 {
     let n = m.min(7);
-    let mut text = fixed(b"found ");
+    fixed(text, b"found ");
     text.put_decimal(n as u32);
     text.put(b" accesses ");
     text.put_decimal((used % 100000) as u32);
     for i in 0..n {
-        put_address(&mut text, found[i]);
+        put_address(text, found[i]);
     }
     text.put(b"\n");
-    text
 }

@@ -5,18 +5,18 @@ use driver_rules::Item;
 use hex_text::Text;
 use refusal::Refusal;
 
-pub fn open(b: &mut Bench, w0: u16, w1: u16, w2: u16) -> Text {
+pub fn open(text: &mut Text, b: &mut Bench, w0: u16, w1: u16, w2: u16) {
     let got = driver::open(&mut b.ram, &mut b.dir, b.card, b.driver, w0, w1, w2);
     b.card = got.card;
     b.driver = got.driver;
-    done(got.answer)
+    done(text, got.answer);
 }
 
-pub fn send(b: &mut Bench, packet: &[u8]) -> Text {
+pub fn send(text: &mut Text, b: &mut Bench, packet: &[u8]) {
     let got = driver::send(&mut b.ram, &mut b.dir, b.card, b.driver, packet);
     b.card = got.card;
     b.driver = got.driver;
-    plain(told(got.answer, |ticket| Reply::Ticket(ticket)))
+    plain(text, told(got.answer, |ticket| Reply::Ticket(ticket)));
 }
 
 // What a service answers; short of budget it tells the accesses used.
@@ -40,7 +40,7 @@ fn frame_bytes(answer: Result<Item, Refusal>) -> usize {
     }
 }
 
-pub fn service(b: &mut Bench, budget: u16) -> Text {
+pub fn service(text: &mut Text, b: &mut Bench, budget: u16) {
     let mut ahead = [0u8; 256];
     let mut frame = [0u8; 1514];
     let got = driver::service(
@@ -49,5 +49,5 @@ pub fn service(b: &mut Bench, budget: u16) -> Text {
     b.card = got.card;
     b.driver = got.driver;
     let up = driver::hand_up(&ahead, &frame, frame_bytes(got.answer));
-    answers::say(service_reply(got.answer, got.used), up, [0; 7])
+    answers::say(text, service_reply(got.answer, got.used), up, [0; 7]);
 }

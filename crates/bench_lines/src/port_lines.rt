@@ -41,37 +41,43 @@ fn back(b: &mut Bench, after: Bus) {
 }
 
 // The reply to a call of the port; a refused one changes no card.
-fn carried<T: Copy, F: FnOnce(T) -> Reply>(b: &mut Bench, after: After<T>, tells: F) -> Text
+fn carried<T: Copy, F: FnOnce(T) -> Reply>(
+    text: &mut Text,
+    b: &mut Bench,
+    after: After<T>,
+    tells: F,
+)
     requires { F.IsAlwaysCallable tells }
 {
     if after.answer.is_ok() {
         back(b, after.bus);
     }
-    plain(told(after.answer, tells))
+    plain(text, told(after.answer, tells));
 }
 
-pub fn write(b: &mut Bench, port: u16, byte: u16) -> Text {
+pub fn write(text: &mut Text, b: &mut Bench, port: u16, byte: u16) {
     let after = port::port_write(bus(b), port, (byte % 256) as u8);
-    carried(b, after, |_| Reply::Ok)
+    carried(text, b, after, |_| Reply::Ok);
 }
 
-pub fn read(b: &mut Bench, port: u16) -> Text {
+pub fn read(text: &mut Text, b: &mut Bench, port: u16) {
     let after = port::port_read(bus(b), port);
-    carried(b, after, |bit| Reply::Bit(bit))
+    carried(text, b, after, |bit| Reply::Bit(bit));
 }
 
-pub fn find(b: &mut Bench, port: u16) -> Text {
+pub fn find(text: &mut Text, b: &mut Bench, port: u16) {
     let after = port::find_cards(bus(b), port);
     match after.answer {
         Ok(cards) => {
             back(b, after.bus);
             answers::say(
+                text,
                 Reply::Found(cards.count, cards.accesses),
                 &[],
                 after.addresses,
-            )
+            );
         }
-        Err(why) => plain(refused(why)),
+        Err(why) => plain(text, refused(why)),
     }
 }
 
@@ -80,7 +86,7 @@ fn narrowed(v: u16) -> u8 {
     u8::try_from(v).unwrap_or(255)
 }
 
-pub fn activate(b: &mut Bench, port: u16, tag: u16, base: u16) -> Text {
+pub fn activate(text: &mut Text, b: &mut Bench, port: u16, tag: u16, base: u16) {
     let after = port::activate_card(bus(b), port, narrowed(tag), narrowed(base));
-    carried(b, after, |_| Reply::Ok)
+    carried(text, b, after, |_| Reply::Ok);
 }

@@ -17,18 +17,19 @@ fn words_of(bytes: &[u8]) -> [u16; 64] {
 }
 
 // A new card, an unopened driver, no other cards.
-pub fn power(b: &mut Bench, bytes: &[u8]) -> Text {
+pub fn power(text: &mut Text, b: &mut Bench, bytes: &[u8]) {
     b.restart(words_of(bytes));
-    crate::plain(Reply::Ok)
+    crate::plain(text, Reply::Ok);
 }
 
 // Another card on the ID port; eight in all are there.
-pub fn join(b: &mut Bench, bytes: &[u8]) -> Text {
+pub fn join(text: &mut Text, b: &mut Bench, bytes: &[u8]) {
     let at = b.others;
     if at >= 7 {
-        return crate::plain(crate::refused(Refusal::ArgumentOutside));
+        crate::plain(text, crate::refused(Refusal::ArgumentOutside));
+        return;
     }
     b.joined[at] = idport::fresh(words_of(bytes));
     b.others = at + 1;
-    crate::plain(Reply::Ok)
+    crate::plain(text, Reply::Ok);
 }

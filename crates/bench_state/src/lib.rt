@@ -13,7 +13,7 @@ pub mod lines; // lines.rt: parts of a line, and a line as far as it was read
 pub use cards::{join, power};
 
 // The bench's own card with its memory, its driver, and the other cards on the ID port: the first `others` of `joined`.
-#[derive(Drop)]
+#[derive(Clone, Copy)]
 pub struct Bench {
     pub ram: [u8; 8192],
     pub dir: [u16; 1110],
@@ -55,8 +55,8 @@ fn closed() -> Driver {
 }
 
 // A reply without bytes.
-pub fn plain(reply: Reply) -> Text {
-    answers::say(reply, &[], [0; 7])
+pub fn plain(text: &mut Text, reply: Reply) {
+    answers::say(text, reply, &[], [0; 7]);
 }
 
 pub fn refused(why: Refusal) -> Reply {
@@ -74,6 +74,6 @@ pub fn told<T, F: FnOnce(T) -> Reply>(answer: Result<T, Refusal>, tells: F) -> R
 }
 
 // A call that tells nothing.
-pub fn done(answer: Result<(), Refusal>) -> Text {
-    plain(told(answer, |_| Reply::Ok))
+pub fn done(text: &mut Text, answer: Result<(), Refusal>) {
+    plain(text, told(answer, |_| Reply::Ok));
 }

@@ -15,7 +15,7 @@ pub fn byte_at(s: &[u8], i: usize) -> u8 {
 }
 
 // A line as far as it was read: there is room for 8,192 characters and a carriage return. Without a length it is too long.
-#[derive(Drop)]
+#[derive(Clone, Copy)]
 pub struct Gathered {
     room: [u8; 8193],
     len: Option<usize>,

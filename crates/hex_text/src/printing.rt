@@ -42,6 +42,13 @@ impl Text {
         }
     }
 
+    // What was put is gone: the next text begins.
+    pub fn clear(&mut self)
+        ensures { self.new ≡ [] }
+    {
+        self.len = 0;
+    }
+
     // The characters.
     pub fn chars(&self) -> &[u8]
         ensures { result.now ≡ self.now }

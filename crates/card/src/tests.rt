@@ -12,16 +12,10 @@ use port_rules::IdState;
 use refusal::Refusal;
 
 // Refusal 1 of an unsound state, else the call's own where its test fails.
-fn allowed(
-    ram: &[u8; 8192],
-    dir: &[u16; 1110],
-    c: Card,
-    ok: bool,
-    own: Refusal,
-) -> Result<(), Refusal>
-    ensures { result ≡ tested (sound_card c ram.now dir.now) ok own }
+fn allowed(sound: bool, ok: bool, own: Refusal) -> Result<(), Refusal>
+    ensures { result ≡ tested sound ok own }
 {
-    if !regs::is_sound(ram, dir, c) {
+    if !sound {
         return Err(Refusal::StateUnsound);
     }
     if !ok {
@@ -34,7 +28,7 @@ fn allowed(
 pub fn sound(ram: &[u8; 8192], dir: &[u16; 1110], c: Card) -> Result<(), Refusal>
     ensures { result ≡ tested (sound_card c ram.now dir.now) true StateUnsound }
 {
-    allowed(ram, dir, c, true, Refusal::StateUnsound)
+    allowed(regs::is_sound(ram, dir, c), true, Refusal::StateUnsound)
 }
 
 // May a word be read or written at this offset?
@@ -42,7 +36,7 @@ pub fn word(ram: &[u8; 8192], dir: &[u16; 1110], c: Card, o: u16) -> Result<(), 
     ensures { result ≡ tested (sound_card c ram.now dir.now) (paper.is_word o) ArgumentOutside }
 {
     let ok = (o <= 15) & (o % 2 == 0);
-    allowed(ram, dir, c, ok, Refusal::ArgumentOutside)
+    allowed(regs::is_sound(ram, dir, c), ok, Refusal::ArgumentOutside)
 }
 
 // May a byte be read or written at this offset in the window that is selected?
@@ -50,7 +44,7 @@ pub fn byte(ram: &[u8; 8192], dir: &[u16; 1110], c: Card, o: u16) -> Result<(), 
     ensures { result ≡ tested (sound_card c ram.now dir.now) (paper.is_byte c.select.window o) ArgumentOutside }
 {
     let ok = (o <= 15) & !((o < 4) & (c.select.window == 1));
-    allowed(ram, dir, c, ok, Refusal::ArgumentOutside)
+    allowed(regs::is_sound(ram, dir, c), ok, Refusal::ArgumentOutside)
 }
 
 // May the wire start a frame?
@@ -58,7 +52,7 @@ pub fn off_wire(ram: &[u8; 8192], dir: &[u16; 1110], c: Card) -> Result<(), Refu
     ensures { result ≡ tested (sound_card c ram.now dir.now) (paper.off_wire c.receive.receiver.wire) OutOfTurn }
 {
     let ok = c.receive.receiver.wire == 0;
-    allowed(ram, dir, c, ok, Refusal::OutOfTurn)
+    allowed(regs::is_sound(ram, dir, c), ok, Refusal::OutOfTurn)
 }
 
 // May the wire bring a byte, or end a frame?
@@ -66,25 +60,21 @@ pub fn on_wire(ram: &[u8; 8192], dir: &[u16; 1110], c: Card) -> Result<(), Refus
     ensures { result ≡ tested (sound_card c ram.now dir.now) (paper.on_wire c.receive.receiver.wire) OutOfTurn }
 {
     let ok = c.receive.receiver.wire != 0;
-    allowed(ram, dir, c, ok, Refusal::OutOfTurn)
+    allowed(regs::is_sound(ram, dir, c), ok, Refusal::OutOfTurn)
 }
 
 // Is a send outcome possible?
 pub fn ready(ram: &[u8; 8192], dir: &[u16; 1110], c: Card) -> Result<(), Refusal>
     ensures { result ≡ tested (sound_card c ram.now dir.now) (tx.ready (view c ram.now dir.now).tx) OutOfTurn }
 {
-    allowed(
-        ram,
-        dir,
-        c,
-        transmit::is_ready(c.transmit),
-        Refusal::OutOfTurn,
-    )
+    let ok = transmit::is_ready(c.transmit);
+    allowed(regs::is_sound(ram, dir, c), ok, Refusal::OutOfTurn)
 }
 
 // May this ID state be seated? An unsound one is refused as the card's own is.
 pub fn seats(ram: &[u8; 8192], dir: &[u16; 1110], c: Card, i: IdState) -> Result<(), Refusal>
     ensures { result ≡ tested (sound_card c ram.now dir.now) (id.id_sound i) StateUnsound }
 {
-    allowed(ram, dir, c, idport::id_sound(i), Refusal::StateUnsound)
+    let ok = idport::id_sound(i);
+    allowed(regs::is_sound(ram, dir, c), ok, Refusal::StateUnsound)
 }

@@ -8,4 +8,4 @@ use Rattle.card.proofs.tests.ready.Goals as goal
 
 pub returns : goal.returns
 unfolding view
-returns c = c.allowed.ensures ∙ tested-alike _ _ _ _ (λ e. c.is_ready.ensures _ _ _ (card-told _ _ _ (search rules) (search rules) e).held.packets)
+returns c = c.allowed.ensures ∙ rw c.is_sound.ensures (tested-alike _ _ _ _ (λ e. c.is_ready-ok.ensures _ _ _ (card-told _ _ _ (search rules) (search rules) e).held.packets))
